@@ -1,0 +1,10 @@
+pub mod Tests
+pub mod Forced
+pub mod Levels
+pub mod Explained
+pub mod Entailment
+pub mod Explaining
+pub mod Bans
+pub mod Lawfulness
+pub mod Graph
+pub mod Places

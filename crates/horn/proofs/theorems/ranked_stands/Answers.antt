@@ -1,0 +1,5 @@
+use Rattle.horn.proofs.Entailment.{ranked}
+use Rattle.horn.proofs.theorems.ranked_stands.Needs as need
+
+pub returns : need.returns
+returns c = ranked

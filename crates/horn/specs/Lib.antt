@@ -1,0 +1,11 @@
+pub mod Sheets
+pub mod Pebblings
+pub mod Levels
+pub mod Explanations
+pub mod Bans
+pub mod Lawfulness
+pub mod Claims
+pub mod Graph
+pub mod Examples
+pub mod Sources
+pub mod Joining
