@@ -1,0 +1,10 @@
+use Rattle.round.specs.Rows.{at, rows}
+use Rattle.round.specs.Steps.{Queued, Counted}
+use Rattle.round.proofs.propagation.seed.Given as given
+
+pub record Inv (l : given.Live-loop-c) : Type 0 where
+  pub queued : Queued (rows (l .outcomes) (l .starts) (l .places)) (l .rank) (l .queue) 0 0 (l .tail) 0
+  pub counted : Counted (rows (l .outcomes) (l .starts) (l .places)) (l .c) (l .rank) (l .queue) (l .count) 0 0 (l .tail) 0 0 0
+
+abbrev pub Inv-loop-c : given.InvT-loop-c
+Inv-loop-c l = Inv l

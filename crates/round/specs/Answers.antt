@@ -1,0 +1,61 @@
+-- What the calls on a round answer, read like the rules: refused with this if .., then with that if .., else this answer.
+use mathlib.Core.Path.{_≡_}
+use mathlib.Core.List.{List, [], _∷_, _++_}
+use mathlib.Core.Logic.{_⊎_}
+use mathlib.Core.Bool.{Bool, true, false, cond, _&&_}
+use Prim.Native.Nat.{ℕ, zero, suc, _+_, _*_, _/_, _^_, _<_}
+use lib.ListN.{length}
+use lib.Dec.{leb}
+use Rattle.horn.specs.Sheets.{Sheet, Too-large}
+use Rattle.horn.specs.Levels.{in-force, how-many}
+use Rattle.horn.specs.Bans.{lowest-broken, discharged}
+use Rattle.horn.specs.Lawfulness.{satisfiable}
+
+-- The numbers answered and what was written to the buffer; or a refusal's number, with the ban that it names, if any.
+pub data Answer : Type 0 where
+  ok : List ℕ → List ℕ → Answer
+  refused : ℕ → List ℕ → Answer
+
+-- Refusals are tried in order: where P holds the answer is x, else the rest decides.
+abbrev pub Else : Type 0 → Answer → (Answer → Type 0) → Answer → Type 0
+Else P x rest a = (P × (a ≡ x)) ⊎ ((P → ⊥) × rest a)
+
+-- the number is no condition of the sheet
+abbrev pub Outside : Sheet → ℕ → Type 0
+Outside s p = (p ≡ 0) ⊎ (s .top < p)
+
+-- What an opening on the sheet answers: the numbers of clauses, of conditions and of discharged body places.
+abbrev pub Opens : Sheet → Answer → Type 0
+Opens s =
+    Else (Too-large s) (refused 5 [])
+    (Else (satisfiable s ≡ false) (refused 8 (lowest-broken s ∷ []))
+    (λ a. a ≡ ok (length (s .clauses) ∷ (s .top ∷ (discharged s ∷ []))) []))
+
+-- What an ask for p answers: 1 for in force, else 0.
+abbrev pub Asks : Sheet → ℕ → Answer → Type 0
+Asks s p =
+    Else (Outside s p) (refused 6 [])
+    (λ a. a ≡ ok (cond (in-force s p) 1 0 ∷ []) [])
+
+-- how many 32-bit words hold a bit for each of `top` conditions
+abbrev pub words-for : ℕ → ℕ
+words-for top = (top + 31) / 32
+
+-- the bits of a word: condition first + b is bit b, for b below n
+abbrev pub bits : (ℕ → Bool) → ℕ → ℕ → ℕ
+bits f first zero = 0
+bits f first (suc b) = bits f first b + cond (f (first + b)) (2 ^ b) 0
+
+abbrev pub words-of : (ℕ → Bool) → ℕ → List ℕ
+words-of f zero = []
+words-of f (suc w) = words-of f w ++ (bits f (32 * w + 1) 32 ∷ [])
+
+-- The set of the conditions from 1 to top that pass the test: condition p is bit (p − 1) mod 32 of word (p − 1) div 32.
+abbrev pub roll-words : (ℕ → Bool) → ℕ → List ℕ
+roll-words f top = words-of (λ p. f p && leb p top) (words-for top)
+
+-- What a roll into a buffer of n words answers and writes: how many conditions are in force, and their set.
+abbrev pub Rolls : Sheet → ℕ → Answer → Type 0
+Rolls s n =
+    Else (n < words-for (s .top)) (refused 10 [])
+    (λ a. a ≡ ok (how-many (in-force s) (s .top) ∷ []) (roll-words (in-force s) (s .top)))

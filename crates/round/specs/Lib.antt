@@ -1,0 +1,5 @@
+pub mod Rows
+pub mod Ranks
+pub mod Steps
+pub mod Broken
+pub mod Answers
