@@ -1,1 +1,2 @@
 mod propagation;
+pub mod theorems;
