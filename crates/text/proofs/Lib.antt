@@ -7,5 +7,7 @@ pub mod Trees
 pub mod Passes
 pub mod Meaning
 pub mod Scan
+pub mod Starts
 pub mod InPlace
 pub mod Pinned
+pub mod Lawfulness
