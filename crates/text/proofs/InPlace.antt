@@ -58,17 +58,21 @@ module _ (s : List ℕ) (m k n : ℕ) (g : Good s m k n) where
     ; viable = (g .tree, [], g .spells ∙ sym (append-nil (take (length s) s) ∙ take-all (length s) s (omega arith)))
     ; longest = λ w h _. h }
 
+  -- no fault of the limits stands in it
+  pub whole-limit : (f i : ℕ) → i < length s → Limit s f i → ⊥
+  whole-limit f i l x = g .none f i (inr ((length s, whole, l), x))
+
   pub small : Small s
   small i p c = ⊎-elim
       (λ h. ⊎-elim
-        (λ l. absurd (g .none 3 i (inr ((length s, whole, l), inl (refl, (p, c, h))))))
+        (λ l. absurd (whole-limit 3 i l (inl (refl, (p, c, h)))))
         (λ l. absurd (omega (arith, getD-past s i 0 l, c .letter)))
         (cases-lt i (length s)))
       (λ h. h) (cases-lt 1000 p)
 
   pub repeats-none : (i : ℕ) → Repeats s i → ⊥
   repeats-none i r = ⊎-elim
-      (λ l. g .none 4 i (inr ((length s, whole, l), inr (inl (refl, r)))))
+      (λ l. whole-limit 4 i l (inr (inl (refl, r))))
       (λ l. omega (arith, getD-past s i 0 l, r .1 .letter))
       (cases-lt i (length s))
 

@@ -11,3 +11,5 @@ pub mod Starts
 pub mod InPlace
 pub mod Pinned
 pub mod Lawfulness
+pub mod Fresh
+pub mod Accepted
