@@ -15,6 +15,7 @@ use Rattle.horn.specs.Sheets.{Distinct, any-of}
 use Rattle.text.specs.Grammar.{digit, Number, NegLits, one, more, Basic, fact, rule, ban, Text, last, join, numeral, neg-lits, inside, basic, text, value, conditions, clause, clauses}
 use Rattle.text.specs.Judging.{Names, Negated, Held, Repeats}
 use Rattle.text.specs.Limits.{lead-value}
+use Rattle.text.proofs.Bodies.{held-less, held-none, signed-next}
 use Rattle.text.proofs.Numbers.{at-drop, lead-is}
 use Rattle.text.proofs.Trees.{lead-number}
 use Rattle.text.proofs.Meaning.{signs, past-number}
@@ -72,21 +73,11 @@ module _ (s : List ℕ) where
     pub bodies : (n j : ℕ) → Held s p n j → any-of (eqb n) seen ≡ true
     pub signed : Negated s p → neg ≡ true
 
-  -- one byte more
-  held-less : (p n j : ℕ) → j < p → Held s (p + 1) n j → Held s p n j
-  held-less p n j l h = record { before = l; condition = h .condition; negated = h .negated; same = λ k a b. h .same k a (omega arith) }
-
-  signed-next : (p : ℕ) → Negated s (p + 1) → getD s p 0 ≡ 126
-  signed-next p h = let e : p + 1 - 1 ≡ p = omega arith in sym (ap (λ i. getD s i 0) e) ∙ h .1
-
   module _ (p : ℕ) (seen : List ℕ) (neg : Bool) (k : Knows p seen neg) where
     after-open : getD s p 0 ≡ 40 → Knows (p + 1) [] false
     after-open e = record
-      { bodies = λ n j h. absurd (⊎-elim
-          (λ (q : j ≡ p). omega (arith, sym (ap (λ i. getD s i 0) q) ∙ h .condition .letter))
-          (λ (q : j ≡ p → ⊥). h .same p (omega (arith, h .before, q)) (omega arith) e)
-          (cases-eq j p))
-      ; signed = λ h. absurd (omega (arith, signed-next p h)) }
+      { bodies = λ n j h. absurd (held-none s p n j e h)
+      ; signed = λ h. absurd (omega (arith, signed-next s p h)) }
 
     after-named : getD s p 0 ≡ 80 → Knows (p + 1) (lead-value (drop (p + 1) s) ∷ seen) false
     after-named e = record
@@ -94,25 +85,25 @@ module _ (s : List ℕ) where
           (λ (q : j ≡ p).
             let c : Names s p n = subst (λ i. Names s i n) q (h .condition) in
             or-left (eqb n (lead-value (drop (p + 1) s))) (any-of (eqb n) seen) (eq-eqb n (lead-value (drop (p + 1) s)) (sym (lead-is s p n c))))
-          (λ (q : j ≡ p → ⊥). or-right (eqb n (lead-value (drop (p + 1) s))) (any-of (eqb n) seen) (k .bodies n j (held-less p n j (omega (arith, h .before, q)) h)))
+          (λ (q : j ≡ p → ⊥). or-right (eqb n (lead-value (drop (p + 1) s))) (any-of (eqb n) seen) (k .bodies n j (held-less s p n j (omega (arith, h .before, q)) h)))
           (cases-eq j p)
-      ; signed = λ h. absurd (omega (arith, signed-next p h)) }
+      ; signed = λ h. absurd (omega (arith, signed-next s p h)) }
 
     after-outcome : neg ≡ false → getD s p 0 ≡ 80 → Knows (p + 1) seen false
     after-outcome e l = record
       { bodies = λ n j h. ⊎-elim
           (λ (q : j ≡ p). absurd (both-ways neg e (k .signed (subst (Negated s) q (h .negated)))))
-          (λ (q : j ≡ p → ⊥). k .bodies n j (held-less p n j (omega (arith, h .before, q)) h))
+          (λ (q : j ≡ p → ⊥). k .bodies n j (held-less s p n j (omega (arith, h .before, q)) h))
           (cases-eq j p)
-      ; signed = λ h. absurd (omega (arith, signed-next p h)) }
+      ; signed = λ h. absurd (omega (arith, signed-next s p h)) }
 
     after-other : (getD s p 0 ≡ 80 → ⊥) → Knows (p + 1) seen (eqb (getD s p 0) 126)
     after-other m = record
       { bodies = λ n j h. ⊎-elim
           (λ (q : j ≡ p). absurd (m (sym (ap (λ i. getD s i 0) q) ∙ h .condition .letter)))
-          (λ (q : j ≡ p → ⊥). k .bodies n j (held-less p n j (omega (arith, h .before, q)) h))
+          (λ (q : j ≡ p → ⊥). k .bodies n j (held-less s p n j (omega (arith, h .before, q)) h))
           (cases-eq j p)
-      ; signed = λ h. eq-eqb (getD s p 0) 126 (signed-next p h) }
+      ; signed = λ h. eq-eqb (getD s p 0) 126 (signed-next s p h) }
 
     not-again : any-of (eqb (lead-value (drop (p + 1) s))) seen ≡ false → Repeats s p → ⊥
     not-again e r =

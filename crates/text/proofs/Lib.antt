@@ -1,7 +1,6 @@
 pub mod Machine
 pub mod Sound
 pub mod Numbers
-pub mod Places
 pub mod Counting
 pub mod Trees
 pub mod Passes
@@ -13,3 +12,5 @@ pub mod Pinned
 pub mod Lawfulness
 pub mod Fresh
 pub mod Accepted
+pub mod Bodies
+pub mod Stamps
