@@ -17,7 +17,7 @@ pub tally-less : (f g : ℕ → ℕ) (a n x : ℕ) → a ≤ x → x < a + n →
 tally-less f g a zero x l k e d h = absurd (omega arith)
 tally-less f g a (suc n) x l k e d h = split (cases-eq x (a + n))
     (λ z. let u : f (a + n) ≡ f x = ap f (sym z) in let v : g (a + n) ≡ g x = ap g (sym z) in
-        omega (arith, tally-same f g a n (λ j p q. h j (omega arith))))
+    omega (arith, tally-same f g a n (λ j p q. h j (omega arith))))
     (λ z. omega (arith, tally-less f g a n x l (omega arith) e d h, h (a + n) (omega arith)))
 
 pub tally-zero : (f : ℕ → ℕ) (a n : ℕ) → tally f a n ≡ 0 → (j : ℕ) → a ≤ j → j < a + n → f j ≡ 0

@@ -30,7 +30,7 @@ pub record Owned (t : Rows) (m n : ℕ) (owner : List ℕ) : Type 0 where
 -- What `enter` does with an outcome o at the rank r: nothing, or it has the rank r and stands at the end of the queue.
 pub record Entered (o r : ℕ) (rank queue : List ℕ) (tail : ℕ) (rank′ queue′ : List ℕ) (tail′ : ℕ) : Type 0 where
   pub cases : ((tail′ ≡ tail) × (rank′ ≡ rank) × (queue′ ≡ queue) × ((o ≡ 0) ⊎ (0 < at rank o)))
-    ⊎ ((tail′ ≡ tail + 1) × (rank′ ≡ set rank o r) × (queue′ ≡ set queue tail o) × (0 < o) × (at rank o ≡ 0))
+      ⊎ ((tail′ ≡ tail + 1) × (rank′ ≡ set rank o r) × (queue′ ≡ set queue tail o) × (0 < o) × (at rank o ≡ 0))
 
 -- The ranked conditions stand in the queue below tail. Those below `end` have ranks up to `level`, from `head` on just
 -- that; those from `end` on have the next. Each has a clause whose conditions have lower ranks.
@@ -43,7 +43,7 @@ pub record Queued (t : Rows) (rank queue : List ℕ) (head end tail level : ℕ)
   pub back : (i : ℕ) → end ≤ i → i < tail → at rank (at queue i) ≡ level + 1
   pub listed : (p : ℕ) → 0 < at rank p → (i : ℕ) × (i < tail) × (at queue i ≡ p)
   pub founded : (p : ℕ) → 0 < at rank p → (c : ℕ) × (c < length (t .outs)) × (at (t .outs) c ≡ p)
-    × ((j : ℕ) → Body t c j → (0 < at rank (at (t .places) j)) × (at rank (at (t .places) j) < at rank p))
+      × ((j : ℕ) → Body t c j → (0 < at rank (at (t .places) j)) × (at rank (at (t .places) j) < at rank p))
 
 -- The clause c is as its conditions' ranks want it: its outcome is ranked, by at most one more than one of them.
 abbrev pub Close : Rows → List ℕ → ℕ → Type 0

@@ -141,7 +141,20 @@ fn strike(
     let mut back = tail;
     let mut j = first[queue[head] as usize] as usize;
     while j > 0 {
-        back = visit(j - 1, head, end, level, outcomes, starts, places, owner, count, rank, queue, back);
+        back = visit(
+            j - 1,
+            head,
+            end,
+            level,
+            outcomes,
+            starts,
+            places,
+            owner,
+            count,
+            rank,
+            queue,
+            back,
+        );
         j = next[j - 1] as usize;
     }
     back
@@ -181,13 +194,36 @@ fn spread(
             end = back;
             level += 1;
         }
-        back = strike(head, end, level, outcomes, starts, places, first, next, owner, count, rank, queue, back);
+        back = strike(
+            head,
+            end,
+            level,
+            outcomes,
+            starts,
+            places,
+            first,
+            next,
+            owner,
+            count,
+            rank,
+            queue,
+            back,
+        );
         head += 1;
     }
 }
 
 // Sets the counter of clause c, and enters its outcome if it is a fact.
-fn start(c: usize, outcomes: &[u16], starts: &[u16], places: &[u16], count: &mut [u16], rank: &mut [u16], queue: &mut [u16], tail: usize) -> usize
+fn start(
+    c: usize,
+    outcomes: &[u16],
+    starts: &[u16],
+    places: &[u16],
+    count: &mut [u16],
+    rank: &mut [u16],
+    queue: &mut [u16],
+    tail: usize,
+) -> usize
     requires lawful { ⌜ Lawful-rows (length (now rank)) (rows (now outcomes) (now starts) (now places)) ⌝ }
     requires space { ⌜ length (now rank) ≤ length (now queue) ⌝ }
     requires counters { ⌜ length (now outcomes) ≤ length (now count) ⌝ }
@@ -206,7 +242,14 @@ fn start(c: usize, outcomes: &[u16], starts: &[u16], places: &[u16], count: &mut
 }
 
 // Sets the counters, and enters the outcomes of the facts.
-fn seed(outcomes: &[u16], starts: &[u16], places: &[u16], count: &mut [u16], rank: &mut [u16], queue: &mut [u16]) -> usize
+fn seed(
+    outcomes: &[u16],
+    starts: &[u16],
+    places: &[u16],
+    count: &mut [u16],
+    rank: &mut [u16],
+    queue: &mut [u16],
+) -> usize
     requires lawful { ⌜ Lawful-rows (length (now rank)) (rows (now outcomes) (now starts) (now places)) ⌝ }
     requires space { ⌜ length (now rank) ≤ length (now queue) ⌝ }
     requires counters { ⌜ length (now outcomes) ≤ length (now count) ⌝ }
@@ -245,9 +288,19 @@ pub(crate) fn ranks(
     chain(places, first, next);
     own(outcomes, starts, places, owner);
     let tail = seed(outcomes, starts, places, count, rank, queue);
-    spread(outcomes, starts, places, first, next, owner, count, rank, queue, tail);
+    spread(
+        outcomes,
+        starts,
+        places,
+        first,
+        next,
+        owner,
+        count,
+        rank,
+        queue,
+        tail,
+    );
 }
-
 
 // How many places hold a condition in force.
 pub(crate) fn count_struck(places: &[u16], rank: &[u16]) -> usize
@@ -278,7 +331,12 @@ fn all_met(from: usize, end: usize, places: &[u16], rank: &[u16]) -> bool
 }
 
 // The lowest broken ban.
-pub(crate) fn lowest_broken(outcomes: &[u16], starts: &[u16], places: &[u16], rank: &[u16]) -> Option<usize>
+pub(crate) fn lowest_broken(
+    outcomes: &[u16],
+    starts: &[u16],
+    places: &[u16],
+    rank: &[u16],
+) -> Option<usize>
     requires { ⌜ Lawful-rows (length (now rank)) (rows (now outcomes) (now starts) (now places)) ⌝ }
     ensures { λ r. ⌜ Lowest (rows (now (outcomes .entry)) (now (starts .entry)) (now (places .entry))) (now (rank .entry)) r ⌝ }
 {

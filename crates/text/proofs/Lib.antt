@@ -1,7 +1,6 @@
 pub mod Machine
 pub mod Sound
 pub mod Numbers
-pub mod Places
 pub mod Counting
 pub mod Trees
 pub mod Passes
@@ -11,3 +10,7 @@ pub mod Starts
 pub mod InPlace
 pub mod Pinned
 pub mod Lawfulness
+pub mod Fresh
+pub mod Accepted
+pub mod Bodies
+pub mod Stamps

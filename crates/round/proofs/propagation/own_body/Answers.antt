@@ -7,8 +7,9 @@ use Rattle.round.proofs.propagation.own_body.Needs as need
 
 pub loop-j-again : need.loop-j-again
 loop-j-again c = (
-    λ j h l. ⊎-elim
-        (at-same (c .loop-j .owner) (c .loop-j .j) (c .args .c) j (omega arith))
-        (λ ne. at-other (c .loop-j .owner) (c .loop-j .j) (c .args .c) j ne ∙ c .loop-j .inv .0 j h (omega arith))
-        (cases-eq j (c .loop-j .j)),
-    λ j h. at-other (c .loop-j .owner) (c .loop-j .j) (c .args .c) j (omega arith) ∙ c .loop-j .inv .1 j h)
+  λ j h l. ⊎-elim
+      (at-same (c .loop-j .owner) (c .loop-j .j) (c .args .c) j (omega arith))
+      (λ ne. at-other (c .loop-j .owner) (c .loop-j .j) (c .args .c) j ne ∙ c .loop-j .inv .0 j h (omega arith))
+      (cases-eq j (c .loop-j .j)),
+  λ j h. at-other (c .loop-j .owner) (c .loop-j .j) (c .args .c) j (omega arith) ∙ c .loop-j .inv .1 j h,
+)

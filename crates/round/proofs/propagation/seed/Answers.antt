@@ -7,4 +7,5 @@ loop-c-holds c =
     let t : Rows = rows (c .args .outcomes .now) (c .args .starts .now) (c .args .places .now) in
     record {
       queued = queued-none t (c .args .rank .now) (c .args .queue .now) (c .pre .clean);
-      counted = counted-none t (c .args .rank .now) (c .args .queue .now) (c .args .count .now) }
+      counted = counted-none t (c .args .rank .now) (c .args .queue .now) (c .args .count .now);
+    }

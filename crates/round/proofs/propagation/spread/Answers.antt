@@ -13,11 +13,11 @@ pub strike-back-requires : need.strike-back-requires
 strike-back-requires c κs =
     let t : Rows = rows (c .args .outcomes .now) (c .args .starts .now) (c .args .places .now) in
     let came : ((c .loop-head .head ≡ c .loop-head .end) × (c .if-head-end .end ≡ c .loop-head .back) × (c .if-head-end .level ≡ c .loop-head .level + 1))
-        ⊎ ((c .loop-head .head ≡ c .loop-head .end → ⊥) × (c .if-head-end .end ≡ c .loop-head .end) × (c .if-head-end .level ≡ c .loop-head .level)) =
-        elim (c .if-head-end .came) [ then-head-end w ↦ inl (w .if-head-end .taken, w .end-is, w .level-is) | else-head-end w ↦ inr (w .if-head-end .left, w .end-is, w .level-is) ] in
+    ⊎ ((c .loop-head .head ≡ c .loop-head .end → ⊥) × (c .if-head-end .end ≡ c .loop-head .end) × (c .if-head-end .level ≡ c .loop-head .level)) =
+    elim (c .if-head-end .came) [ then-head-end w ↦ inl (w .if-head-end .taken, w .end-is, w .level-is) | else-head-end w ↦ inr (w .if-head-end .left, w .end-is, w .level-is) ] in
     let v = at-head t (length (c .args .outcomes .now)) (c .loop-head .rank) (c .loop-head .queue) (c .loop-head .count) (c .loop-head .head) (c .loop-head .end)
-        (c .loop-head .back) (c .loop-head .level) (c .if-head-end .end) (c .if-head-end .level) (c .loop-head-test .taken) (c .loop-head .inv .few) came
-        (c .loop-head .inv .queued) (c .loop-head .inv .counted) in
+    (c .loop-head .back) (c .loop-head .level) (c .if-head-end .end) (c .if-head-end .level) (c .loop-head-test .taken) (c .loop-head .inv .few) came
+    (c .loop-head .inv .queued) (c .loop-head .inv .counted) in
     let same : length (c .args .rank .now) ≡ length (c .loop-head .rank) = omega arith in
     record {
       lawful = rw same at (c .pre .lawful);
@@ -30,7 +30,8 @@ strike-back-requires c κs =
       small = omega (arith, v .1, c .loop-head .inv .queued .room, c .loop-head-test .taken);
       here = v .0;
       queued = v .2;
-      counted = v .3 }
+      counted = v .3;
+    }
 
 pub add-head : need.add-head
 add-head c = omega (arith, c .loop-head .inv .queued .room, c .loop-head-test .taken)

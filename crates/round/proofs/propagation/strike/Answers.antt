@@ -19,8 +19,9 @@ loop-j-holds c =
       place = λ h. c .pre .chained .starts-at p h .1;
       queued = c .pre .queued;
       counted = counted-first t (c .args .rank .now) (c .args .queue .now) (c .args .count .now)
-        (c .args .first .now) (c .args .next .now) (c .args .head) (c .args .tail) (c .args .level) (c .pre .chained)
-        (omega (arith, c .pre .here, c .pre .queued .order)) (c .pre .counted) }
+          (c .args .first .now) (c .args .next .now) (c .args .head) (c .args .tail) (c .args .level) (c .pre .chained)
+          (omega (arith, c .pre .here, c .pre .queued .order)) (c .pre .counted);
+    }
 
 pub loop-j-again : need.loop-j-again
 loop-j-again c =
@@ -36,9 +37,10 @@ loop-j-again c =
       place = λ h. c .pre .chained .goes-on i l h ∙ e;
       queued = c .visit-back .ensures .queued;
       counted = counted-at t (length (c .args .outcomes .now)) (c .visit-back .last .rank) (c .visit-back .last .queue) (c .visit-back .last .count)
-        (c .args .head) (c .args .head + 1) (c .visit-back .result) (c .args .level) (at (c .args .places .now) i) (at (c .args .next .now) i) p (at (c .args .next .now) i) e refl
-        (counted-next t (c .visit-back .last .rank) (c .visit-back .last .queue) (c .visit-back .last .count)
-        (c .args .first .now) (c .args .next .now) (c .args .head) (c .args .head + 1) (c .visit-back .result) (c .args .level) i (c .pre .chained) l (c .visit-back .ensures .counted)) }
+          (c .args .head) (c .args .head + 1) (c .visit-back .result) (c .args .level) (at (c .args .places .now) i) (at (c .args .next .now) i) p (at (c .args .next .now) i) e refl
+          (counted-next t (c .visit-back .last .rank) (c .visit-back .last .queue) (c .visit-back .last .count)
+          (c .args .first .now) (c .args .next .now) (c .args .head) (c .args .head + 1) (c .visit-back .result) (c .args .level) i (c .pre .chained) l (c .visit-back .ensures .counted));
+    }
 
 pub returns : need.returns
 returns c =
@@ -47,11 +49,12 @@ returns c =
     let z : c .loop-j .j ≡ 0 = omega arith in
     record {
       queued = queued-step t (c .loop-j .rank) (c .loop-j .queue) (c .args .head) (c .args .end) (c .loop-j .back) (c .args .level) (c .pre .here)
-        (c .loop-j .inv .queued);
+          (c .loop-j .inv .queued);
       counted = counted-last (length (c .args .rank .now)) t (c .pre .lawful) (c .loop-j .rank) (c .loop-j .queue) (c .loop-j .count)
-        (c .args .head) (c .loop-j .back) (c .args .level) p (c .loop-j .inv .here)
-        (counted-at t (length (c .args .outcomes .now)) (c .loop-j .rank) (c .loop-j .queue) (c .loop-j .count)
-        (c .args .head) (c .args .head + 1) (c .loop-j .back) (c .args .level) p (c .loop-j .j) p 0 refl z (c .loop-j .inv .counted)) }
+          (c .args .head) (c .loop-j .back) (c .args .level) p (c .loop-j .inv .here)
+          (counted-at t (length (c .args .outcomes .now)) (c .loop-j .rank) (c .loop-j .queue) (c .loop-j .count)
+          (c .args .head) (c .args .head + 1) (c .loop-j .back) (c .args .level) p (c .loop-j .j) p 0 refl z (c .loop-j .inv .counted));
+    }
 
 pub visit-back-requires : need.visit-back-requires
 visit-back-requires c κs =
@@ -71,4 +74,5 @@ visit-back-requires c κs =
       here = (c .pre .here, c .loop-j .inv .here ∙ sym e);
       queued = c .loop-j .inv .queued;
       counted = counted-at t (length (c .args .outcomes .now)) (c .loop-j .rank) (c .loop-j .queue) (c .loop-j .count)
-        (c .args .head) (c .args .head + 1) (c .loop-j .back) (c .args .level) p (c .loop-j .j) (at (c .args .places .now) i) (i + 1) (sym e) (omega arith) (c .loop-j .inv .counted) }
+          (c .args .head) (c .args .head + 1) (c .loop-j .back) (c .args .level) p (c .loop-j .j) (at (c .args .places .now) i) (i + 1) (sym e) (omega arith) (c .loop-j .inv .counted);
+    }

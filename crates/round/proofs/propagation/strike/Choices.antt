@@ -13,7 +13,7 @@ pub record Inv (l : given.Live-loop-j) : Type 0 where
   pub place : 0 < l .j → at (l .places) (l .j - 1) ≡ at (l .entry .queue) (l .head)
   pub queued : Queued (rows (l .outcomes) (l .starts) (l .places)) (l .rank) (l .queue) (l .head) (l .end) (l .back) (l .level)
   pub counted : Counted (rows (l .outcomes) (l .starts) (l .places)) (length (l .outcomes)) (l .rank) (l .queue) (l .count) (l .head) (l .head + 1) (l .back) (l .level)
-    (at (l .entry .queue) (l .head)) (l .j)
+      (at (l .entry .queue) (l .head)) (l .j)
 
 abbrev pub Inv-loop-j : given.InvT-loop-j
 Inv-loop-j l = Inv l

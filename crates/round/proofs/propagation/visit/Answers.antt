@@ -16,20 +16,21 @@ returns-then-left-eq0 c =
     let t : Rows = rows (c .args .outcomes .now) (c .args .starts .now) (c .args .places .now) in
     let n : ℕ = length (c .args .rank .now) in
     let pos : 0 < at (c .args .count .now) (at (c .args .owner .now) (c .args .place)) = count-pos t (c .pre .lawful .rows) (c .args .owner .now)
-        (c .args .rank .now) (c .args .queue .now) (c .args .count .now) (c .args .head) (c .args .end) (c .args .tail) (c .args .level) (c .args .place)
-        (c .pre .owned) (c .pre .queued) (c .pre .here) (c .pre .place) (c .pre .counted) in
+    (c .args .rank .now) (c .args .queue .now) (c .args .count .now) (c .args .head) (c .args .end) (c .args .tail) (c .args .level) (c .args .place)
+    (c .pre .owned) (c .pre .queued) (c .pre .here) (c .pre .place) (c .pre .counted) in
     let last : at (c .args .count .now) (at (c .args .owner .now) (c .args .place)) ≡ 1 = omega (arith, c .if-left-eq0 .taken) in
     let m = c .pre .lawful .outcomes (at (c .args .owner .now) (c .args .place)) (c .pre .owned .within (c .args .place) (c .pre .place) .0) in
     record {
       kept = last-same t n (c .pre .lawful) (c .args .owner .now) (c .args .rank .now) (c .args .queue .now) (c .args .count .now)
-        (c .args .head) (c .args .end) (c .args .tail) (c .args .level) (c .args .place) (c .pre .owned) (c .pre .queued) (c .pre .here) (c .pre .place)
-        (c .pre .counted) last (c .pre .space) m (c .enter .last .rank) (c .enter .last .queue) (c .enter .result) (c .enter .ensures);
+          (c .args .head) (c .args .end) (c .args .tail) (c .args .level) (c .args .place) (c .pre .owned) (c .pre .queued) (c .pre .here) (c .pre .place)
+          (c .pre .counted) last (c .pre .space) m (c .enter .last .rank) (c .enter .last .queue) (c .enter .result) (c .enter .ensures);
       queued = last-queued t n (c .pre .lawful) (c .args .owner .now) (c .args .rank .now) (c .args .queue .now) (c .args .count .now)
-        (c .args .head) (c .args .end) (c .args .tail) (c .args .level) (c .args .place) (c .pre .owned) (c .pre .queued) (c .pre .here) (c .pre .place)
-        (c .pre .counted) last (c .pre .space) m (c .enter .last .rank) (c .enter .last .queue) (c .enter .result) (c .enter .ensures);
+          (c .args .head) (c .args .end) (c .args .tail) (c .args .level) (c .args .place) (c .pre .owned) (c .pre .queued) (c .pre .here) (c .pre .place)
+          (c .pre .counted) last (c .pre .space) m (c .enter .last .rank) (c .enter .last .queue) (c .enter .result) (c .enter .ensures);
       counted = last-counted t n (c .pre .lawful) (c .args .owner .now) (c .args .rank .now) (c .args .queue .now) (c .args .count .now)
-        (c .args .head) (c .args .end) (c .args .tail) (c .args .level) (c .args .place) (c .pre .owned) (c .pre .queued) (c .pre .here) (c .pre .place)
-        (c .pre .counted) last (c .pre .space) m (c .enter .last .rank) (c .enter .last .queue) (c .enter .result) (c .enter .ensures) (c .pre .counters) }
+          (c .args .head) (c .args .end) (c .args .tail) (c .args .level) (c .args .place) (c .pre .owned) (c .pre .queued) (c .pre .here) (c .pre .place)
+          (c .pre .counted) last (c .pre .space) m (c .enter .last .rank) (c .enter .last .queue) (c .enter .result) (c .enter .ensures) (c .pre .counters);
+    }
 
 pub returns : need.returns
 returns c =
@@ -38,6 +39,7 @@ returns c =
       kept = (omega arith, λ i h. refl);
       queued = c .pre .queued;
       counted = counted-struck t (c .pre .lawful .rows) (c .args .owner .now)
-        (c .args .rank .now) (c .args .queue .now) (c .args .count .now) (c .args .head) (c .args .end) (c .args .tail) (c .args .level) (c .args .place)
-        (c .pre .owned) (c .pre .queued) (c .pre .here) (c .pre .place) (c .pre .counted) (c .pre .counters)
-        (λ e. absurd (c .if-left-eq0 .left e)) }
+          (c .args .rank .now) (c .args .queue .now) (c .args .count .now) (c .args .head) (c .args .end) (c .args .tail) (c .args .level) (c .args .place)
+          (c .pre .owned) (c .pre .queued) (c .pre .here) (c .pre .place) (c .pre .counted) (c .pre .counters)
+          (λ e. absurd (c .if-left-eq0 .left e));
+    }
