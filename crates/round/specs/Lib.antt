@@ -3,3 +3,4 @@ pub mod Ranks
 pub mod Steps
 pub mod Broken
 pub mod Answers
+pub mod Scratch
