@@ -10,3 +10,4 @@ pub mod Good
 pub mod Sound
 pub mod Sets
 pub mod Determined
+pub mod Scratch
