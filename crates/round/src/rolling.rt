@@ -7,19 +7,27 @@ ghost use Rattle.horn.specs.Levels.{how-many};
 ghost use Rattle.round.specs.Answers.{words-for, roll-words, bits};
 ghost use Rattle.round.specs.Sets.{ranked, up-to};
 
-// The 32 conditions from `first` on that have a rank and are at most `top`, as bits.
+// Whether condition p has a rank and is at most `top`.
+fn holds(rank: &[u16], top: u16, p: usize) -> bool
+    requires { ⌜ top < length (now rank) ⌝ }
+    ensures { λ r. ⌜ r ≡ up-to top (ranked (now (rank .entry))) p ⌝ }
+{
+    if p > top as usize {
+        return false;
+    }
+    rank[p] > 0
+}
+
+// The 32 conditions from `first` on, each as a bit, the first one the lowest.
 fn word(rank: &[u16], top: u16, first: usize) -> u32
     requires table { ⌜ top < length (now rank) ⌝ }
-    requires low { ⌜ first ≤ 1000 ⌝ }
+    requires low { ⌜ first ≤ 1024 ⌝ }
     ensures { λ r. ⌜ r ≡ bits (up-to top (ranked (now (rank .entry)))) first 32 ⌝ }
 {
     let mut w = 0u32;
     for b in (0..32usize).rev() {
-        let p = first + b;
-        w *= 2;
-        if p <= top as usize && rank[p] > 0 {
-            w += 1;
-        }
+        let bit = u32::from(holds(rank, top, first + b));
+        w = w * 2 + bit;
     }
     w
 }
