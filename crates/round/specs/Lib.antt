@@ -1,6 +1,6 @@
 pub mod Rows
+pub mod Occurrences
 pub mod Ranks
 pub mod Steps
-pub mod Broken
 pub mod Answers
 pub mod Scratch
