@@ -1,7 +1,7 @@
 pub mod Rows
+pub mod Occurrences
 pub mod Ranks
 pub mod Steps
-pub mod Broken
 pub mod Answers
 pub mod Writing
 pub mod Held
