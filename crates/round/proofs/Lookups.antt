@@ -10,10 +10,11 @@ use Rattle.std.specs.Finite.{nth}
 use Rattle.std.specs.declared.option.Option.{Option}
 use Rattle.std.specs.declared.option.Option.the-variants.{Some, None}
 use Rattle.std.proofs.shelf.Lists.{getD-take, getD-drop}
-use Rattle.std.proofs.shelf.Counted.{length-map-counting, getD-map-counting}
+use Rattle.std.proofs.shelf.Counted.{length-map-counting}
 use Rattle.std.proofs.shelf.Maps.{nth-getD, nth-past}
 use Rattle.horn.specs.Sheets.{Sheet, Clause, clause-at, outcome-number}
 use Rattle.horn.specs.Sources.{at-place}
+use Rattle.round.proofs.Meaning.{clause-here}
 use Rattle.round.specs.Rows.{at, Rows, kept-outcome, clause-in, clauses-in, sheet-in}
 
 pub clause-at-nth : (s : Sheet) (i : ℕ) → 1 ≤ i → clause-at s i ≡ nth (s .clauses) (i - 1)
@@ -27,18 +28,12 @@ at-place-nth ps (suc j) h = let e : j ≡ suc j - 1 = omega arith in ap (nth ps)
 pub length-clauses : (t : Rows) → length (clauses-in t) ≡ length (t .outs)
 length-clauses t = length-map-counting (clause-in t) 0 (length (t .outs))
 
-pub nth-clauses : (t : Rows) (k : ℕ) → k < length (t .outs) → nth (clauses-in t) k ≡ Some (clause-in t k)
-nth-clauses t k h =
-    let l : k < length (clauses-in t) = omega (arith, length-clauses t) in
-    let e : 0 + k ≡ k = omega arith in
-    nth-getD (clauses-in t) k (clause-in t 0) l ∙ ap Some (getD-map-counting (clause-in t) 0 (length (t .outs)) k k (clause-in t 0) h e)
-
 module _ (top : ℕ) (t : Rows) (n i : ℕ) (size : n ≡ length (t .outs)) (low : 1 ≤ i) where
   pub none-at : n ≤ i - 1 → clause-at (sheet-in top t) i ≡ None
   none-at h = clause-at-nth (sheet-in top t) i low ∙ nth-past (clauses-in t) (i - 1) (omega (arith, length-clauses t))
 
-  pub clause-here : i - 1 < n → clause-at (sheet-in top t) i ≡ Some (clause-in t (i - 1))
-  clause-here h = clause-at-nth (sheet-in top t) i low ∙ nth-clauses t (i - 1) (omega arith)
+  pub clause-found : i - 1 < n → clause-at (sheet-in top t) i ≡ Some (clause-in t (i - 1))
+  clause-found h = clause-at-nth (sheet-in top t) i low ∙ clause-here t (i - 1) (omega arith)
 
 pub kept-number : (o : ℕ) → outcome-number (kept-outcome o) ≡ o
 kept-number zero = refl

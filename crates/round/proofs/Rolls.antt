@@ -15,8 +15,7 @@ use native.Mathlib.Numerals.{add-one}
 use lib.Seq.{drop-cons, set-at}
 use Rattle.std.proofs.shelf.Tests.{le-leb, lt-leb, and-right}
 use Rattle.horn.specs.Levels.{how-many}
-use Rattle.round.specs.Answers.{bits, words-of, words-for, roll-words}
-use Rattle.round.specs.Sets.{up-to}
+use Rattle.round.specs.Answers.{bits, words-of, words-for, roll-words, up-to}
 
 bit-le : (b : Bool) → cond b 1 0 ≤ 1
 bit-le true = omega arith

@@ -28,14 +28,19 @@ pub record Usable (st : State) : Type 0 where
   pub ranks : vec-len (st .rank) ≡ 1001
   pub ready : Ready (st .scratch)
 
--- The tables hold a lawful sheet within the limits that some choice satisfies, with the rank of each condition.
-pub record Good (st : State) : Type 0 where
+-- The tables hold a lawful sheet within the limits.
+pub record Stocked (st : State) : Type 0 where
   pub usable : Usable st
   pub filled : Filled (held-rows (st .tables))
   pub few-conditions : st .tables .conditions ≤ 1000
   pub few-clauses : vec-len (st .tables .outcomes) ≤ 2256
   pub few-places : vec-len (st .tables .places) ≤ 8256
   pub lawfully : lawful (state-sheet st) ≡ true
+
+-- What holds of every round: its sheet is lawful and within the limits, the table has the rank of each condition, and
+-- some choice satisfies the sheet.
+pub record Good (st : State) : Type 0 where
+  pub stocked : Stocked st
   pub ranked : Ranks (state-sheet st) (vec-items (st .rank))
   pub unbroken : satisfiable (state-sheet st) ≡ true
 
@@ -67,14 +72,18 @@ filled-prop t = λ p q i. record {
     rising = Π-prop (λ c. Π-prop (λ _. le-prop)) (p .rising) (q .rising) i;
     ends = ℕ-set _ _ (p .ends) (q .ends) i }
 
-good-prop : (st : State) → IsProp (Good st)
-good-prop st = λ p q i. record {
+stocked-prop : (st : State) → IsProp (Stocked st)
+stocked-prop st = λ p q i. record {
     usable = usable-prop st (p .usable) (q .usable) i;
     filled = filled-prop (held-rows (st .tables)) (p .filled) (q .filled) i;
     few-conditions = le-prop (p .few-conditions) (q .few-conditions) i;
     few-clauses = le-prop (p .few-clauses) (q .few-clauses) i;
     few-places = le-prop (p .few-places) (q .few-places) i;
-    lawfully = Bool-set _ _ (p .lawfully) (q .lawfully) i;
+    lawfully = Bool-set _ _ (p .lawfully) (q .lawfully) i }
+
+good-prop : (st : State) → IsProp (Good st)
+good-prop st = λ p q i. record {
+    stocked = stocked-prop st (p .stocked) (q .stocked) i;
     ranked = Π-prop (λ k. Π-prop (λ _. ℕ-set _ _)) (p .ranked) (q .ranked) i;
     unbroken = Bool-set _ _ (p .unbroken) (q .unbroken) i }
 

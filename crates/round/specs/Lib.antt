@@ -8,6 +8,5 @@ pub mod Held
 pub mod Replies
 pub mod Good
 pub mod Sound
-pub mod Sets
 pub mod Determined
 pub mod Scratch

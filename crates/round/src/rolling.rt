@@ -4,8 +4,8 @@ ghost use mathlib.Core.List.{_++_};
 ghost use Prim.Native.Nat.{_≤_, _<_, _+_};
 ghost use lib.ListN.{length, drop};
 ghost use Rattle.horn.specs.Levels.{how-many};
-ghost use Rattle.round.specs.Answers.{words-for, roll-words, bits};
-ghost use Rattle.round.specs.Sets.{ranked, up-to};
+ghost use Rattle.round.specs.Answers.{words-for, roll-words, bits, up-to};
+ghost use Rattle.round.specs.Ranks.{ranked};
 
 // Whether condition p has a rank and is at most `top`.
 fn holds(rank: &[u16], top: u16, p: usize) -> bool

@@ -1,7 +1,7 @@
 use mathlib.Core.Path.{sym}
 use lib.Dec.{leb}
 use Rattle.std.proofs.shelf.Tests.{le-leb, lt-leb, and-right}
-use Rattle.round.specs.Sets.{ranked}
+use Rattle.round.specs.Ranks.{ranked}
 use Rattle.round.proofs.Rolls.{and-true}
 use Rattle.round.proofs.rolling.holds.Needs as need
 

@@ -3,8 +3,8 @@ use mathlib.Core.Path.{_≡_, refl, sym, ap, ap₂, _∙_}
 use mathlib.Core.Bool.{Bool}
 use native.Mathlib.Omega.{arith}
 use mir.Val.{boolByte}
-use Rattle.round.specs.Answers.{bits}
-use Rattle.round.specs.Sets.{ranked, up-to}
+use Rattle.round.specs.Answers.{bits, up-to}
+use Rattle.round.specs.Ranks.{ranked}
 use Rattle.round.proofs.Rolls.{word-more, word-fits}
 use Rattle.round.proofs.rolling.word.Needs as need
 

@@ -1,7 +1,7 @@
 use Prim.Native.Nat.{_+_, _-_}
 use mathlib.Core.Path.{_≡_}
-use Rattle.round.specs.Answers.{bits}
-use Rattle.round.specs.Sets.{ranked, up-to}
+use Rattle.round.specs.Answers.{bits, up-to}
+use Rattle.round.specs.Ranks.{ranked}
 use Rattle.round.proofs.rolling.word.Given as given
 
 abbrev pub Inv-loop-b : given.InvT-loop-b

@@ -5,8 +5,8 @@ use mathlib.Core.List.{List, _++_}
 use native.Mathlib.Omega.{arith}
 use lib.ListN.{length, drop}
 use Rattle.horn.specs.Levels.{how-many}
-use Rattle.round.specs.Answers.{words-of, words-for}
-use Rattle.round.specs.Sets.{ranked, up-to}
+use Rattle.round.specs.Answers.{words-of, words-for, up-to}
+use Rattle.round.specs.Ranks.{ranked}
 use Rattle.round.proofs.Rolls.{words-more, count-more, ones-few, how-many-le, how-many-up-to}
 use Rattle.round.proofs.rolling.write_roll.Needs as need
 

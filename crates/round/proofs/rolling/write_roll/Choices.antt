@@ -3,8 +3,8 @@ use mathlib.Core.Path.{_≡_}
 use mathlib.Core.List.{_++_}
 use lib.ListN.{drop}
 use Rattle.horn.specs.Levels.{how-many}
-use Rattle.round.specs.Answers.{words-of}
-use Rattle.round.specs.Sets.{ranked, up-to}
+use Rattle.round.specs.Answers.{words-of, up-to}
+use Rattle.round.specs.Ranks.{ranked}
 use Rattle.round.proofs.rolling.write_roll.Given as given
 
 abbrev pub Inv-loop-w : given.InvT-loop-w

@@ -9,7 +9,7 @@ use Rattle.std.specs.declared.option.Option.the-variants.{Some}
 use Rattle.horn.specs.Sheets.{Clause}
 use Rattle.horn.specs.Sources.{place-of}
 use Rattle.round.specs.Held.{held-rows}
-use Rattle.round.proofs.Lookups.{none-at, clause-here, nth-between, nth-between-past, at-place-nth}
+use Rattle.round.proofs.Lookups.{none-at, clause-found, nth-between, nth-between-past, at-place-nth}
 use Rattle.round.proofs.tables.Tables.body_at.Needs as need
 
 pub returns-then-k-len : need.returns-then-k-len
@@ -28,7 +28,7 @@ returns-then-at-to c =
     let low : k < c .len .result = omega arith in
     let lo : k < length (vec-items (t .outcomes)) = omega arith in
     let hi : k + 1 ≤ length (vec-items (t .outcomes)) = omega arith in
-    let at-k = clause-here (t .conditions) (held-rows t) (c .len .result) (c .args .i) size (omega arith) low in
+    let at-k = clause-found (t .conditions) (held-rows t) (c .len .result) (c .args .i) size (omega arith) low in
     sym (ap (λ (o : Option Clause). place-of o (c .args .j)) at-k
       ∙ at-place-nth (between (getD ss k 0) (getD ss (k + 1) 0) ps) (c .args .j) (omega arith)
       ∙ nth-between-past ps (getD ss k 0) (getD ss (k + 1) 0) (c .args .j - 1) (c .pre .rising k lo) (c .pre .ends (k + 1) hi) (omega (arith, c .start-from .ensures, c .start-to .ensures)))
@@ -48,7 +48,7 @@ returns c =
     let size : c .len .result ≡ length (vec-items (t .outcomes)) = c .len .ensures ∙ t .outcomes .ok .0 in
     let low : k < c .len .result = omega arith in
     let hi : k + 1 ≤ length (vec-items (t .outcomes)) = omega arith in
-    let at-k = clause-here (t .conditions) (held-rows t) (c .len .result) (c .args .i) size (omega arith) low in
+    let at-k = clause-found (t .conditions) (held-rows t) (c .len .result) (c .args .i) size (omega arith) low in
     let same : c .start-from .result + (c .args .j - 1) ≡ getD ss k 0 + (c .args .j - 1) = ap (λ a. a + (c .args .j - 1)) (c .start-from .ensures) in
     ap Some (c .place .ensures ∙ ap (λ a. getD ps a 0) same)
     ∙ sym (ap (λ (o : Option Clause). place-of o (c .args .j)) at-k

@@ -7,7 +7,7 @@ use Rattle.std.specs.Of.Vec.{vec-items}
 use Rattle.std.specs.declared.option.Option.the-variants.{Some}
 use Rattle.horn.specs.Sheets.{Clause}
 use Rattle.round.specs.Held.{held-rows}
-use Rattle.round.proofs.Lookups.{none-at, clause-here, size-between}
+use Rattle.round.proofs.Lookups.{none-at, clause-found, size-between}
 use Rattle.round.proofs.tables.Tables.body_len.Needs as need
 
 pub returns-then-k-len : need.returns-then-k-len
@@ -31,6 +31,6 @@ returns c =
     let low : k < c .len .result = omega arith in
     let lo : k < length (vec-items (t .outcomes)) = omega arith in
     let hi : k + 1 ≤ length (vec-items (t .outcomes)) = omega arith in
-    let at-k = clause-here (t .conditions) (held-rows t) (c .len .result) (c .args .i) size (omega arith) low in
+    let at-k = clause-found (t .conditions) (held-rows t) (c .len .result) (c .args .i) size (omega arith) low in
     ap Some (ap₂ (λ b a. b - a) (c .start-to .ensures) (c .start-from .ensures) ∙ sym (size-between ps (getD ss k 0) (getD ss (k + 1) 0) (c .pre .rising k lo) (c .pre .ends (k + 1) hi)))
     ∙ ap (mapped (λ (x : Clause). length (x .body))) (sym at-k)

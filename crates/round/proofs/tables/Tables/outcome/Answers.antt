@@ -8,7 +8,7 @@ use Rattle.std.specs.declared.option.Option.the-variants.{Some}
 use Rattle.std.proofs.shelf.Lists.{getD-read-under}
 use Rattle.horn.specs.Sheets.{Clause, outcome-number}
 use Rattle.round.specs.Held.{held-rows}
-use Rattle.round.proofs.Lookups.{none-at, clause-here, kept-number}
+use Rattle.round.proofs.Lookups.{none-at, clause-found, kept-number}
 use Rattle.round.proofs.tables.Tables.outcome.Needs as need
 
 pub returns-then-k-len : need.returns-then-k-len
@@ -25,5 +25,5 @@ returns c =
     let size : c .len .result ≡ length os = c .len .ensures ∙ t .outcomes .ok .0 in
     let low : k < c .len .result = omega arith in
     let is : c .index .result .now ≡ getD os k 0 = getD-read-under os k (c .len .result) (c .index .result .now) 0 (c .index .ensures) low size in
-    let at-k = clause-here (t .conditions) (held-rows t) (c .len .result) (c .args .i) size (omega arith) low in
+    let at-k = clause-found (t .conditions) (held-rows t) (c .len .result) (c .args .i) size (omega arith) low in
     ap Some (is ∙ sym (kept-number (getD os k 0))) ∙ ap (mapped (λ (x : Clause). outcome-number (x .outcome))) (sym at-k)
