@@ -1,6 +1,6 @@
 -- What the tables of a round hold after an opening.
 use Prim.Native.Nat.{ℕ, zero, suc, _+_, _-_, _≤_, _<_}
-use mathlib.Core.Path.{_≡_, refl, sym, ap, subst, _∙_}
+use mathlib.Core.Path.{_≡_, refl, sym, ap, subst, subst₂, _∙_}
 use mathlib.Core.Bool.{true}
 use mathlib.Core.List.{List}
 use native.Mathlib.Omega.{arith}
@@ -94,3 +94,25 @@ stocked-from st s l h n r =
       few-clauses = omega (arith, h .copied .few-clauses);
       few-places = omega (arith, h .copied .few-places);
       lawfully = ap lawful (h .sheet) ∙ lawful-tested s .1 (l .lawful) }
+
+-- What propagation asks of the rows that are lent to it, and what it says of them, it says of the state.
+module _ (st : State) (s : Stocked st) (t : Rows) (e : t ≡ held-rows (st .tables)) where
+  pub lent-rows : Lawful-rows 1001 t
+  lent-rows = subst (Lawful-rows 1001) (sym e) (stocked-rows st s)
+
+  pub lent-few : (length (t .outs) ≤ 2256) × (length (t .places) ≤ 8256)
+  lent-few =
+      let a : length (t .outs) ≡ length (vec-items (st .tables .outcomes)) = ap (λ (x : Rows). length (x .outs)) e in
+      let b : length (t .places) ≡ length (vec-items (st .tables .places)) = ap (λ (x : Rows). length (x .places)) e in
+      (omega (arith, a, st .tables .outcomes .ok .0, s .few-clauses), omega (arith, b, st .tables .places .ok .0, s .few-places))
+
+  lent-lawful : Lawful (sheet-in (st .tables .conditions) t)
+  lent-lawful = subst (λ (x : Rows). Lawful (sheet-in (st .tables .conditions) x)) (sym e) (stocked-lawful st s)
+
+  pub lent-ranks : (rank : List ℕ) → ((top : ℕ) → Lawful (sheet-in top t) → Ranks (sheet-in top t) rank) → Ranks (state-sheet st) rank
+  lent-ranks rank h = subst (λ (x : Rows). Ranks (sheet-in (st .tables .conditions) x) rank) e (h (st .tables .conditions) lent-lawful)
+
+  pub lent-says : (P : Sheet → Type 0) (rank : List ℕ) → rank ≡ vec-items (st .rank) → Ranks (state-sheet st) (vec-items (st .rank)) → ((top : ℕ) → Lawful (sheet-in top t) → Ranks (sheet-in top t) rank → P (sheet-in top t)) → P (state-sheet st)
+  lent-says P rank f r h =
+      let top : ℕ = st .tables .conditions in
+      subst (λ (x : Rows). P (sheet-in top x)) e (h top lent-lawful (subst₂ (λ (x : Rows) (y : List ℕ). Ranks (sheet-in top x) y) (sym e) (sym f) r))
