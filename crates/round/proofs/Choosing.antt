@@ -32,6 +32,7 @@ is-false false = inl refl
 
 pub determined : Determined
 determined = record {
-    opens = λ s. one-else (Too-large s) _ _ (either _ _ (below 2000 _) (below 8000 _)) (one-else (satisfiable s ≡ false) _ _ (is-false (satisfiable s)) (one-last _));
-    asks = λ s p. one-else (Outside s p) _ _ (either _ _ (cases-eq p 0) (below (s .top) p)) (one-last _);
-    rolls = λ s n. one-else (n < words-for (s .top)) _ _ (below n (words-for (s .top))) (one-last _) }
+  opens = λ s. one-else (Too-large s) _ _ (either _ _ (below 2000 _) (below 8000 _)) (one-else (satisfiable s ≡ false) _ _ (is-false (satisfiable s)) (one-last _));
+  asks = λ s p. one-else (Outside s p) _ _ (either _ _ (cases-eq p 0) (below (s .top) p)) (one-last _);
+  rolls = λ s n. one-else (n < words-for (s .top)) _ _ (below n (words-for (s .top))) (one-last _);
+}

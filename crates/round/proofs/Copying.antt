@@ -19,14 +19,14 @@ use Rattle.round.specs.Held.{body-at}
 use Rattle.round.proofs.Lookups.{clause-at-nth, at-place-nth}
 
 -- one place more of a clause's body
-pub body-more : (o : Option Clause) (n j p : ℕ) (b : List ℕ) → mapped (λ c. length (c .body)) o ≡ Some n → j < n → Some b ≡ mapped (take j) (mapped (λ c. c .body) o) → p ≡ valueOr (place-of o (j + 1)) 0 → Some (b ++ p ∷ []) ≡ mapped (take (j + 1)) (mapped (λ c. c .body) o)
-body-more None n j p b s h e f = absurd (none-some s)
-body-more (Some cl) n j p b s h e f =
+pub body-more : (o : Option Clause) (n j p : ℕ) (r : Option ℕ) (b b′ : List ℕ) → mapped (λ c. length (c .body)) o ≡ Some n → j < n → Some b ≡ mapped (take j) (mapped (λ c. c .body) o) → r ≡ place-of o (j + 1) → p ≡ valueOr r 0 → b′ ≡ b ++ p ∷ [] → Some b′ ≡ mapped (take (j + 1)) (mapped (λ c. c .body) o)
+body-more None n j p r b b′ s h e d f w = absurd (none-some s)
+body-more (Some cl) n j p r b b′ s h e d f w =
     let size : length (cl .body) ≡ n = some-inj s in
     let here : j < length (cl .body) = omega arith in
     let k : j + 1 - 1 ≡ j = omega arith in
-    let q : valueOr (at-place (cl .body) (j + 1)) 0 ≡ getD (cl .body) j 0 = ap (λ (x : Option ℕ). valueOr x 0) (at-place-nth (cl .body) (j + 1) (omega arith) ∙ ap (nth (cl .body)) k ∙ nth-getD (cl .body) j 0 here) in
-    ap Some (ap₂ (λ (x : List ℕ) (y : ℕ). x ++ y ∷ []) (some-inj e) (f ∙ q) ∙ sym (take-more (cl .body) j 0 here))
+    let q : p ≡ getD (cl .body) j 0 = f ∙ ap (λ (x : Option ℕ). valueOr x 0) (d ∙ at-place-nth (cl .body) (j + 1) (omega arith) ∙ ap (nth (cl .body)) k ∙ nth-getD (cl .body) j 0 here) in
+    ap Some (w ∙ ap₂ (λ (x : List ℕ) (y : ℕ). x ++ y ∷ []) (some-inj e) q ∙ sym (take-more (cl .body) j 0 here))
 
 pub body-all : (o : Option Clause) (n j : ℕ) (b : List ℕ) → mapped (λ c. length (c .body)) o ≡ Some n → n ≤ j → Some b ≡ mapped (take j) (mapped (λ c. c .body) o) → Some b ≡ mapped (λ c. c .body) o
 body-all None n j b s h e = absurd (none-some s)

@@ -21,14 +21,16 @@ writing-filled t w e =
       counted = w .counted;
       begins = w .begins;
       rising = w .rising;
-      ends = omega (arith, n, length-drop (at (t .starts) (length (t .outs))) (t .places), w .ends (length (t .outs)) (omega arith)) }
+      ends = omega (arith, n, length-drop (at (t .starts) (length (t .outs))) (t .places), w .ends (length (t .outs)) (omega arith));
+    }
 
 pub filled-writing : (t : Rows) → Filled t → Writing t
 filled-writing t f = record {
-    counted = f .counted;
-    begins = f .begins;
-    rising = f .rising;
-    ends = λ c h. let k : ℕ = length (t .outs) - c in let e : c + k ≡ length (t .outs) = omega arith in up k c e }
+  counted = f .counted;
+  begins = f .begins;
+  rising = f .rising;
+  ends = λ c h. let k : ℕ = length (t .outs) - c in let e : c + k ≡ length (t .outs) = omega arith in up k c e;
+}
   where
     up : (k c : ℕ) → c + k ≡ length (t .outs) → at (t .starts) c ≤ length (t .places)
     up zero c e = let s : c ≡ length (t .outs) = omega arith in omega (arith, ap (at (t .starts)) s, f .ends)
@@ -51,10 +53,11 @@ module _ (os ss ps : List ℕ) (s : Writing (rows os ss ps)) where
   -- one place more
   pub writing-place : (p : ℕ) → Writing (rows os ss (ps ++ p ∷ []))
   writing-place p = record {
-      counted = s .counted;
-      begins = s .begins;
-      rising = s .rising;
-      ends = λ k h. omega (arith, s .ends k h, length-push ps p) }
+    counted = s .counted;
+    begins = s .begins;
+    rising = s .rising;
+    ends = λ k h. omega (arith, s .ends k h, length-push ps p);
+  }
 
   pub clauses-place : (p : ℕ) → clauses-in (rows os ss (ps ++ p ∷ [])) ≡ clauses-in (rows os ss ps)
   clauses-place p = alike (clause-in (rows os ss (ps ++ p ∷ []))) (clause-in (rows os ss ps)) (length os)
@@ -72,16 +75,18 @@ module _ (os ss ps : List ℕ) (s : Writing (rows os ss ps)) where
   -- the clause is ended
   pub writing-end : (o : ℕ) → Writing (rows (os ++ o ∷ []) (ss ++ length ps ∷ []) ps)
   writing-end o = record {
-      counted = omega (arith, length-push os o, length-push ss (length ps), s .counted);
-      begins = start-old 0 (omega arith) (length ps) ∙ s .begins;
-      rising = λ k h. rise k (decLe (k + 1) (length os)) (omega (arith, length-push os o));
-      ends = λ k h. end k (decLe k (length os)) (omega (arith, length-push os o)) }
+    counted = omega (arith, length-push os o, length-push ss (length ps), s .counted);
+    begins = start-old 0 (omega arith) (length ps) ∙ s .begins;
+    rising = λ k h. rise k (decLe (k + 1) (length os)) (omega (arith, length-push os o));
+    ends = λ k h. end k (decLe k (length os)) (omega (arith, length-push os o));
+  }
     where
       rise : (k : ℕ) → Dec (k + 1 ≤ length os) → k ≤ length os → getD (ss ++ length ps ∷ []) k 0 ≤ getD (ss ++ length ps ∷ []) (k + 1) 0
       rise k (yes l) h = omega (arith, s .rising k (omega arith), start-old k h (length ps), start-old (k + 1) l (length ps))
       rise k (no l) h =
           let e : k + 1 ≡ length os + 1 = omega arith in
           omega (arith, s .ends k h, start-old k h (length ps), ap (λ j. getD (ss ++ length ps ∷ []) j 0) e ∙ start-new (length ps))
+
       end : (k : ℕ) → Dec (k ≤ length os) → k ≤ length os + 1 → getD (ss ++ length ps ∷ []) k 0 ≤ length ps
       end k (yes l) h = omega (arith, s .ends k l, start-old k l (length ps))
       end k (no l) h =
@@ -100,14 +105,15 @@ module _ (os ss ps : List ℕ) (s : Writing (rows os ss ps)) where
       ap (λ m. map f (counting 0 m)) (length-push os o)
       ∙ map-counting-more f 0 n n (omega arith)
       ∙ ap₂ (λ (x : List Clause) (y : Clause). x ++ y ∷ [])
-          (alike f (clause-in (rows os ss ps)) n (λ k h. old k h))
-          (ap₂ (λ (b : List ℕ) (q : ℕ). record { body = b; outcome = kept-outcome q }) last (getD-push os o 0 n refl))
+      (alike f (clause-in (rows os ss ps)) n (λ k h. old k h))
+      (ap₂ (λ (b : List ℕ) (q : ℕ). record { body = b; outcome = kept-outcome q }) last (getD-push os o 0 n refl))
     where
       old : (k : ℕ) → k < length os → clause-in (rows (os ++ o ∷ []) (ss ++ length ps ∷ []) ps) k ≡ clause-in (rows os ss ps) k
       old k h =
           let a = start-old k (omega arith) (length ps) in
           let b = start-old (k + 1) (omega arith) (length ps) in
           ap₂ (λ (x : List ℕ) (q : ℕ). record { body = x; outcome = kept-outcome q }) (ap₂ (λ x y. between x y ps) a b) (getD-append-left os (o ∷ []) 0 k h)
+
       last : between (getD (ss ++ length ps ∷ []) (length os) 0) (getD (ss ++ length ps ∷ []) (length os + 1) 0) ps ≡ unfinished (rows os ss ps)
       last =
           ap₂ (λ x y. between x y ps) (start-old (length os) (omega arith) (length ps)) (start-new (length ps))

@@ -41,19 +41,21 @@ small-outcome top (suc o) h w = omega (arith, w (suc o) refl .1)
 -- The rows of a lawful sheet have its conditions alone.
 pub lawful-rows : (top : ℕ) (t : Rows) → top ≤ 1000 → Filled t → Lawful (sheet-in top t) → Lawful-rows 1001 t
 lawful-rows top t h f l = record {
-    rows = f;
-    outcomes = λ c k. small-outcome top (at (t .outs) c) h (clause-lawful c k .outcomes);
-    conditions = λ j k. let o = owned t f j (length (t .outs)) (omega arith) (omega (arith, f .ends)) in at-place (o .0) (o .1) j (o .2) }
+  rows = f;
+  outcomes = λ c k. small-outcome top (at (t .outs) c) h (clause-lawful c k .outcomes);
+  conditions = λ j k. let o = owned t f j (length (t .outs)) (omega arith) (omega (arith, f .ends)) in at-place (o .0) (o .1) j (o .2);
+}
   where
     clause-lawful : (c : ℕ) → c < length (t .outs) → Lawful-clause (sheet-in top t) (clause-in t c)
     clause-lawful c k = all-nth (Lawful-clause (sheet-in top t)) (clauses-in t) c (clause-in t c) (clause-here t c k) l
+
     at-place : (c : ℕ) → c < length (t .outs) → (j : ℕ) → Body t c j → (0 < at (t .places) j) × (at (t .places) j < 1001)
     at-place c k j b =
         let a : ℕ = at (t .starts) c in
         let e : a + (j - a) ≡ j = omega (arith, b .0) in
         let p = all-nth (Condition (sheet-in top t)) (clause-in t c .body) (j - a) (getD (t .places) (a + (j - a)) 0)
-          (nth-between (t .places) a (at (t .starts) (c + 1)) (j - a) (filled-writing t f .ends (c + 1) (omega arith)) (omega (arith, b .0, b .1)))
-          (clause-lawful c k .conditions) in
+        (nth-between (t .places) a (at (t .starts) (c + 1)) (j - a) (filled-writing t f .ends (c + 1) (omega arith)) (omega (arith, b .0, b .1)))
+        (clause-lawful c k .conditions) in
         let q : getD (t .places) (a + (j - a)) 0 ≡ at (t .places) j = ap (at (t .places)) e in
         (omega (arith, q, p .0), omega (arith, q, p .1))
 
@@ -79,9 +81,11 @@ good-empty st e z n r =
         few-conditions = omega arith;
         few-clauses = omega (arith, e .no-clauses);
         few-places = omega (arith, e .no-places);
-        lawfully = ap lawful (e .sheet) };
+        lawfully = ap lawful (e .sheet);
+      };
       ranked = subst (λ (s : Sheet). Ranks s (vec-items (st .rank))) (sym (e .sheet)) (λ p h. ap (λ (xs : List ℕ). at xs p) z ∙ zeros-at 1001 p);
-      unbroken = ap satisfiable (e .sheet) }
+      unbroken = ap satisfiable (e .sheet);
+    }
 
 -- the tables hold a source's sheet
 pub stocked-from : (st : State) (s : Sheet) → Lawful-source s → Holds s (st .tables) → vec-len (st .rank) ≡ 1001 → Ready (st .scratch) → Stocked st
@@ -93,7 +97,8 @@ stocked-from st s l h n r =
       few-conditions = omega (arith, l .few-conditions);
       few-clauses = omega (arith, h .copied .few-clauses);
       few-places = omega (arith, h .copied .few-places);
-      lawfully = ap lawful (h .sheet) ∙ lawful-tested s .1 (l .lawful) }
+      lawfully = ap lawful (h .sheet) ∙ lawful-tested s .1 (l .lawful);
+    }
 
 -- What propagation asks of the rows that are lent to it, and what it says of them, it says of the state.
 module _ (st : State) (s : Stocked st) (t : Rows) (e : t ≡ held-rows (st .tables)) where

@@ -1,4 +1,5 @@
--- What the calls on a round answer, read like the rules: refused with this if .., then with that if .., else this answer.
+-- What the calls on a round answer: refused with this if .., then with that if .., else this answer.
+-- Assumes nothing.
 use mathlib.Core.Path.{_≡_}
 use mathlib.Core.List.{List, [], _∷_, _++_}
 use mathlib.Core.Logic.{_⊎_}

@@ -47,45 +47,51 @@ pub record Good (st : State) : Type 0 where
 -- Each of these facts has one proof at most.
 roomy-prop : (t : Tables) → IsProp (Roomy t)
 roomy-prop t = λ p q i. record {
-    outcome-room = le-prop (p .outcome-room) (q .outcome-room) i;
-    start-room = le-prop (p .start-room) (q .start-room) i;
-    place-room = le-prop (p .place-room) (q .place-room) i }
+  outcome-room = le-prop (p .outcome-room) (q .outcome-room) i;
+  start-room = le-prop (p .start-room) (q .start-room) i;
+  place-room = le-prop (p .place-room) (q .place-room) i;
+}
 
 ready-prop : (s : Scratch) → IsProp (Ready s)
 ready-prop s = λ p q i. record {
-    queue = ℕ-set _ _ (p .queue) (q .queue) i;
-    first = ℕ-set _ _ (p .first) (q .first) i;
-    next = ℕ-set _ _ (p .next) (q .next) i;
-    owner = ℕ-set _ _ (p .owner) (q .owner) i;
-    count = ℕ-set _ _ (p .count) (q .count) i }
+  queue = ℕ-set _ _ (p .queue) (q .queue) i;
+  first = ℕ-set _ _ (p .first) (q .first) i;
+  next = ℕ-set _ _ (p .next) (q .next) i;
+  owner = ℕ-set _ _ (p .owner) (q .owner) i;
+  count = ℕ-set _ _ (p .count) (q .count) i;
+}
 
 usable-prop : (st : State) → IsProp (Usable st)
 usable-prop st = λ p q i. record {
-    roomy = roomy-prop (st .tables) (p .roomy) (q .roomy) i;
-    ranks = ℕ-set _ _ (p .ranks) (q .ranks) i;
-    ready = ready-prop (st .scratch) (p .ready) (q .ready) i }
+  roomy = roomy-prop (st .tables) (p .roomy) (q .roomy) i;
+  ranks = ℕ-set _ _ (p .ranks) (q .ranks) i;
+  ready = ready-prop (st .scratch) (p .ready) (q .ready) i;
+}
 
 filled-prop : (t : Rows) → IsProp (Filled t)
 filled-prop t = λ p q i. record {
-    counted = ℕ-set _ _ (p .counted) (q .counted) i;
-    begins = ℕ-set _ _ (p .begins) (q .begins) i;
-    rising = Π-prop (λ c. Π-prop (λ _. le-prop)) (p .rising) (q .rising) i;
-    ends = ℕ-set _ _ (p .ends) (q .ends) i }
+  counted = ℕ-set _ _ (p .counted) (q .counted) i;
+  begins = ℕ-set _ _ (p .begins) (q .begins) i;
+  rising = Π-prop (λ c. Π-prop (λ _. le-prop)) (p .rising) (q .rising) i;
+  ends = ℕ-set _ _ (p .ends) (q .ends) i;
+}
 
 stocked-prop : (st : State) → IsProp (Stocked st)
 stocked-prop st = λ p q i. record {
-    usable = usable-prop st (p .usable) (q .usable) i;
-    filled = filled-prop (held-rows (st .tables)) (p .filled) (q .filled) i;
-    few-conditions = le-prop (p .few-conditions) (q .few-conditions) i;
-    few-clauses = le-prop (p .few-clauses) (q .few-clauses) i;
-    few-places = le-prop (p .few-places) (q .few-places) i;
-    lawfully = Bool-set _ _ (p .lawfully) (q .lawfully) i }
+  usable = usable-prop st (p .usable) (q .usable) i;
+  filled = filled-prop (held-rows (st .tables)) (p .filled) (q .filled) i;
+  few-conditions = le-prop (p .few-conditions) (q .few-conditions) i;
+  few-clauses = le-prop (p .few-clauses) (q .few-clauses) i;
+  few-places = le-prop (p .few-places) (q .few-places) i;
+  lawfully = Bool-set _ _ (p .lawfully) (q .lawfully) i;
+}
 
 good-prop : (st : State) → IsProp (Good st)
 good-prop st = λ p q i. record {
-    stocked = stocked-prop st (p .stocked) (q .stocked) i;
-    ranked = Π-prop (λ k. Π-prop (λ _. ℕ-set _ _)) (p .ranked) (q .ranked) i;
-    unbroken = Bool-set _ _ (p .unbroken) (q .unbroken) i }
+  stocked = stocked-prop st (p .stocked) (q .stocked) i;
+  ranked = Π-prop (λ k. Π-prop (λ _. ℕ-set _ _)) (p .ranked) (q .ranked) i;
+  unbroken = Bool-set _ _ (p .unbroken) (q .unbroken) i;
+}
 
 -- the facts of a round, taken out
 pub good : (st : State) → ∥ Good st ∥₁ → Good st

@@ -23,7 +23,8 @@ state-lawful st g =
     record {
       few-conditions = g .few-conditions;
       few-clauses = omega (arith, n, st .tables .outcomes .ok .0, g .few-clauses);
-      lawful = lawful-tested (state-sheet st) .0 (g .lawfully) }
+      lawful = lawful-tested (state-sheet st) .0 (g .lawfully);
+    }
 
 pub round-lawful : (r : Round) → Lawful-source (round-sheet r)
 round-lawful r = state-lawful (r .state) (good (r .state) (r .ok) .stocked)

@@ -7,6 +7,13 @@ ghost use Rattle.horn.specs.Levels.{how-many};
 ghost use Rattle.round.specs.Answers.{words-for, roll-words, bits, up-to};
 ghost use Rattle.round.specs.Ranks.{ranked};
 
+// How many words hold a bit for each condition.
+pub(crate) fn words_for(top: u16) -> usize
+    ensures { λ r. ⌜ r ≡ words-for top ⌝ }
+{
+    (top as usize + 31) / 32
+}
+
 // Whether condition p has a rank and is at most `top`.
 fn holds(rank: &[u16], top: u16, p: usize) -> bool
     requires { ⌜ top < length (now rank) ⌝ }
@@ -41,7 +48,7 @@ pub(crate) fn write_roll(rank: &[u16], top: u16, words: &mut [u32]) -> u16
     ensures written { λ _. ⌜ now (words .exit) ≡ roll-words (ranked (now (rank .entry))) top ++ drop (words-for top) (now (words .entry)) ⌝ }
 {
     let mut n = 0u32;
-    for w in 0..(top as usize + 31) / 32 {
+    for w in 0..words_for(top) {
         let x = word(rank, top, 32 * w + 1);
         words[w] = x;
         n += x.count_ones();

@@ -18,9 +18,10 @@ add-n c =
 pub loop-w-again : need.loop-w-again
 loop-w-again c =
     let f : ℕ → Bool = up-to (c .args .top) (ranked (c .args .rank .now)) in
-    let lt : c .loop-w .w < length (c .args .words .now) = omega arith in
-    ( count-more f (c .loop-w .w) (c .loop-w .n) (c .word-x .result) (c .loop-w .inv .0) (c .word-x .ensures)
-    , words-more f (c .args .words .now) (c .loop-w .words) (c .loop-w .w) (c .word-x .result) lt (c .loop-w .inv .1) (c .word-x .ensures))
+    let lt : c .loop-w .w < length (c .args .words .now) = omega arith in (
+      count-more f (c .loop-w .w) (c .loop-w .n) (c .word-x .result) (c .loop-w .inv .0) (c .word-x .ensures),
+      words-more f (c .args .words .now) (c .loop-w .words) (c .loop-w .w) (c .word-x .result) lt (c .loop-w .inv .1) (c .word-x .ensures),
+    )
 
 pub cast-result : need.cast-result
 cast-result c =
@@ -34,4 +35,5 @@ returns c =
     let l : c .args .top ≤ 32 * c .loop-w .w = omega arith in
     record {
       count = c .loop-w .inv .0 ∙ how-many-up-to (ranked (c .args .rank .now)) (c .args .top) (32 * c .loop-w .w) l;
-      written = c .loop-w .inv .1 ∙ ap (λ (k : ℕ). words-of f k ++ drop k (c .args .words .now)) w }
+      written = c .loop-w .inv .1 ∙ ap (λ (k : ℕ). words-of f k ++ drop k (c .args .words .now)) w;
+    }

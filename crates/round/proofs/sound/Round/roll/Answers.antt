@@ -1,4 +1,4 @@
-use Prim.Native.Nat.{ℕ}
+use Prim.Native.Nat.{ℕ, _≤_}
 use mathlib.Core.Path.{_≡_, sym, ap, subst, _∙_}
 use mathlib.Core.List.{List, _++_}
 use native.Mathlib.Omega.{arith}
@@ -15,7 +15,7 @@ pub write-roll-requires : need.write-roll-requires
 write-roll-requires c κs =
     let st = c .args .self .now .state in
     let g = good st (c .args .self .now .ok) in
-    record { table = c .deref .ensures .len ∙ g .stocked .usable .ranks; low = g .stocked .few-conditions; space = c .if-words-top .left }
+    record { table = c .deref .ensures .len ∙ g .stocked .usable .ranks; low = g .stocked .few-conditions; space = omega arith }
 
 pub returns : need.returns
 returns c =
@@ -26,6 +26,8 @@ returns c =
     let rest : List ℕ = drop (words-for (s .top)) (c .args .words .now) in
     let n = c .write-roll .ensures .count ∙ count-in-force s (c .deref .result .now) r in
     let b : c .write-roll .last .words ≡ roll-words (in-force s) (s .top) ++ rest = c .write-roll .ensures .written ∙ ap (λ (ws : List ℕ). ws ++ rest) (roll-in-force s (c .deref .result .now) r) in
+    let space : words-for (s .top) ≤ length (c .args .words .now) = omega arith in
     record {
-      answer = rolls-ok s (c .write-roll .result) (length (c .args .words .now)) (c .write-roll .last .words) rest (c .if-words-top .left) n b;
-      buffer = b }
+      answer = rolls-ok s (c .write-roll .result) (length (c .args .words .now)) (c .write-roll .last .words) rest space n b;
+      buffer = b;
+    }

@@ -7,5 +7,6 @@ use Rattle.round.proofs.state.State.empty.Needs as need
 
 pub returns : need.returns
 returns c = record {
-    good = good-empty _ (c .clear .ensures) (c .fill .ensures .items (λ y e. e) ∙ ap (λ (n : ℕ). replicate n 0) (c .pre .ranks)) (c .fill .ensures .len ∙ c .pre .ranks) (c .pre .ready);
-    sheet = c .clear .ensures .sheet }
+  good = good-empty _ (c .clear .ensures) (c .fill .ensures .items (λ y e. e) ∙ ap (λ (n : ℕ). replicate n 0) (c .pre .ranks)) (c .fill .ensures .len ∙ c .pre .ranks) (c .pre .ready);
+  sheet = c .clear .ensures .sheet;
+}

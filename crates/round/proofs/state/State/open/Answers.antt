@@ -23,8 +23,9 @@ returns-in-None g c =
     record {
       good = record { stocked = c .rank-conditions .ensures .stocked; ranked = c .rank-conditions .ensures .ranked; unbroken = c .in-None .ensures tt };
       answer = opens-ok s (c .clauses .result) (t .conditions) (c .discharged .result) (h .copied .sheet-clauses) (h .copied .sheet-literals)
-        (sym (ap satisfiable e) ∙ c .in-None .ensures tt)
-        (c .clauses .ensures ∙ t .outcomes .ok .0 ∙ sym (length-clauses (held-rows t)) ∙ ap (λ (x : Sheet). length (x .clauses)) e)
-        (ap (λ (x : Sheet). x .top) e)
-        (c .discharged .ensures ∙ ap discharged e);
-      sheet = e }
+          (sym (ap satisfiable e) ∙ c .in-None .ensures tt)
+          (c .clauses .ensures ∙ t .outcomes .ok .0 ∙ sym (length-clauses (held-rows t)) ∙ ap (λ (x : Sheet). length (x .clauses)) e)
+          (ap (λ (x : Sheet). x .top) e)
+          (c .discharged .ensures ∙ ap discharged e);
+      sheet = e;
+    }

@@ -16,7 +16,8 @@ ranks-requires c κs =
     record {
       lawful = lent-rows (c .args .self .now) (c .pre) (rows-of (c .rows .result)) (c .rows .ensures);
       sizes = (c .deref-mut .ensures .len ∙ c .pre .usable .ranks, few .0, few .1);
-      ready = c .pre .usable .ready }
+      ready = c .pre .usable .ready;
+    }
 
 pub returns : need.returns
 returns c =
@@ -31,6 +32,8 @@ returns c =
         few-conditions = s .few-conditions;
         few-clauses = s .few-clauses;
         few-places = s .few-places;
-        lawfully = s .lawfully };
+        lawfully = s .lawfully;
+      };
       ranked = subst (λ (x : List ℕ). Ranks (state-sheet st) x) (sym (refilled-is (st .rank) (c .ranks .last .rank) n))
-        (lent-ranks st s (rows-of (c .rows .result)) (c .rows .ensures) (c .ranks .last .rank) (c .ranks .ensures .ranked)) }
+          (lent-ranks st s (rows-of (c .rows .result)) (c .rows .ensures) (c .ranks .last .rank) (c .ranks .ensures .ranked));
+    }

@@ -25,4 +25,5 @@ returns c =
       sheet = ap (λ (cs : List Clause). record { top = t .conditions; clauses = cs }) (ap (λ (q : List ℕ). clauses-in (rows os ss q)) is ∙ clauses-place os ss ps w p);
       body = ap (λ (q : List ℕ). unfinished (rows os ss q)) is ∙ body-place os ss ps w p;
       clauses-count = refl;
-      places-count = c .push-reserved .ensures .len }
+      places-count = c .push-reserved .ensures .len;
+    }

@@ -30,8 +30,8 @@ returns-then-at-to c =
     let hi : k + 1 ≤ length (vec-items (t .outcomes)) = omega arith in
     let at-k = clause-found (t .conditions) (held-rows t) (c .len .result) (c .args .i) size (omega arith) low in
     sym (ap (λ (o : Option Clause). place-of o (c .args .j)) at-k
-      ∙ at-place-nth (between (getD ss k 0) (getD ss (k + 1) 0) ps) (c .args .j) (omega arith)
-      ∙ nth-between-past ps (getD ss k 0) (getD ss (k + 1) 0) (c .args .j - 1) (c .pre .rising k lo) (c .pre .ends (k + 1) hi) (omega (arith, c .start-from .ensures, c .start-to .ensures)))
+    ∙ at-place-nth (between (getD ss k 0) (getD ss (k + 1) 0) ps) (c .args .j) (omega arith)
+    ∙ nth-between-past ps (getD ss k 0) (getD ss (k + 1) 0) (c .args .j - 1) (c .pre .rising k lo) (c .pre .ends (k + 1) hi) (omega (arith, c .start-from .ensures, c .start-to .ensures)))
 
 pub place-requires : need.place-requires
 place-requires c κs =
@@ -52,5 +52,5 @@ returns c =
     let same : c .start-from .result + (c .args .j - 1) ≡ getD ss k 0 + (c .args .j - 1) = ap (λ a. a + (c .args .j - 1)) (c .start-from .ensures) in
     ap Some (c .place .ensures ∙ ap (λ a. getD ps a 0) same)
     ∙ sym (ap (λ (o : Option Clause). place-of o (c .args .j)) at-k
-      ∙ at-place-nth (between (getD ss k 0) (getD ss (k + 1) 0) ps) (c .args .j) (omega arith)
-      ∙ nth-between ps (getD ss k 0) (getD ss (k + 1) 0) (c .args .j - 1) (c .pre .ends (k + 1) hi) (omega (arith, c .start-from .ensures, c .start-to .ensures)))
+    ∙ at-place-nth (between (getD ss k 0) (getD ss (k + 1) 0) ps) (c .args .j) (omega arith)
+    ∙ nth-between ps (getD ss k 0) (getD ss (k + 1) 0) (c .args .j - 1) (c .pre .ends (k + 1) hi) (omega (arith, c .start-from .ensures, c .start-to .ensures)))

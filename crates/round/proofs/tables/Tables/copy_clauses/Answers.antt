@@ -16,21 +16,35 @@ use Rattle.round.proofs.tables.Tables.copy_clauses.Needs as need
 
 pub returns-then-m-gt2000 : need.returns-then-m-gt2000
 returns-then-m-gt2000 g c = record {
-    roomy = c .pre .roomy;
-    kept = λ e. absurd (let z : _≡_ {A = ℕ} 0 1 = cc in omega arith);
-    refused = λ e. inl (omega (arith, c .clauses-m .ensures, c .if-m-gt2000 .taken)) }
+  roomy = c .pre .roomy;
+  kept = λ e. absurd (let z : _≡_ {A = ℕ} 0 1 = cc in omega arith);
+  refused = λ e. inl (omega (arith, c .clauses-m .ensures, c .if-m-gt2000 .taken));
+}
 
 pub loop-k-holds : need.loop-k-holds
 loop-k-holds g c =
-    let p = c .pre in
-    ( filled-writing _ (p .filled)
-    , (p .roomy
-    , (ap (λ (x : Sheet). x .clauses) (p .sheet)
-    , (filled-unfinished _ (p .filled)
-    , (p .no-clauses
-    , (omega (arith, p .no-places)
-    , (omega arith
-    , refl)))))))
+    let p = c .pre in (
+      filled-writing _ (p .filled),
+      (
+        p .roomy,
+        (
+          ap (λ (x : Sheet). x .clauses) (p .sheet),
+          (
+            filled-unfinished _ (p .filled),
+            (
+              p .no-clauses,
+              (
+                omega (arith, p .no-places),
+                (
+                  omega arith,
+                  refl,
+                ),
+              ),
+            ),
+          ),
+        ),
+      ),
+    )
 
 pub returns-then-used-more-gt8000 : need.returns-then-used-more-gt8000
 returns-then-used-more-gt8000 g c =
@@ -45,7 +59,8 @@ returns-then-used-more-gt8000 g c =
     record {
       roomy = v .1 .0;
       kept = λ e. absurd (let z : _≡_ {A = ℕ} 0 1 = cc in omega arith);
-      refused = λ e. inr (omega (arith, u, literals-take (k + 1) (s .clauses), c .if-used-more-gt8000 .taken)) }
+      refused = λ e. inr (omega (arith, u, literals-take (k + 1) (s .clauses), c .if-used-more-gt8000 .taken));
+    }
 
 pub copy-body-requires : need.copy-body-requires
 copy-body-requires g c κs =
@@ -60,7 +75,8 @@ copy-body-requires g c κs =
       roomy = v .1 .0;
       room = omega (arith, v .1 .1 .1 .1 .1 .0, c .if-used-more-gt8000 .left);
       size = ap (mapped (λ (x : Clause). length (x .body))) (here s k lt) ∙ ap Some (sym n);
-      fresh = v .1 .1 .1 .0 }
+      fresh = v .1 .1 .1 .0;
+    }
 
 pub loop-k-again : need.loop-k-again
 loop-k-again g c =
@@ -74,15 +90,28 @@ loop-k-again g c =
     let u = used-more s k w lt (c .loop-k .used) (c .unwrap-or-n .result) (c .min .result) (c .unwrap-or-o .result) (v .1 .1 .1 .1 .1 .1 .1) n o (c .min .ensures) in
     let b = c .copy-body .ensures in
     let e = c .end-clause .ensures in
-    let same = same-clause s k w lt (c .unwrap-or-o .result) (unfinished (held-rows (c .copy-body .last .self))) (b .body) o in
-    ( e .writing
-    , (e .roomy
-    , (e .clauses ∙ ap₂ (λ (x : List Clause) (y : Clause). x ++ y ∷ []) (ap (λ (x : Sheet). x .clauses) (b .sheet) ∙ v .1 .1 .0) same ∙ sym (take-more (s .clauses) k nothing lt)
-    , (e .body
-    , (omega (arith, e .clauses-count, b .clauses, v .1 .1 .1 .1 .0)
-    , (omega (arith, e .places-count, b .places, v .1 .1 .1 .1 .1 .0)
-    , (c .if-used-more-gt8000 .left
-    , u)))))))
+    let same = same-clause s k w lt (c .unwrap-or-o .result) (unfinished (held-rows (c .copy-body .last .self))) (b .body) o in (
+      e .writing,
+      (
+        e .roomy,
+        (
+          e .clauses ∙ ap₂ (λ (x : List Clause) (y : Clause). x ++ y ∷ []) (ap (λ (x : Sheet). x .clauses) (b .sheet) ∙ v .1 .1 .0) same ∙ sym (take-more (s .clauses) k nothing lt),
+          (
+            e .body,
+            (
+              omega (arith, e .clauses-count, b .clauses, v .1 .1 .1 .1 .0),
+              (
+                omega (arith, e .places-count, b .places, v .1 .1 .1 .1 .1 .0),
+                (
+                  c .if-used-more-gt8000 .left,
+                  u,
+                ),
+              ),
+            ),
+          ),
+        ),
+      ),
+    )
 
 pub returns : need.returns
 returns g c =
@@ -98,5 +127,7 @@ returns g c =
         few-clauses = omega (arith, v .1 .1 .1 .1 .0, c .clauses-m .ensures);
         few-places = omega (arith, v .1 .1 .1 .1 .1 .0, v .1 .1 .1 .1 .1 .1 .0);
         sheet-clauses = omega (arith, c .clauses-m .ensures);
-        sheet-literals = omega (arith, ul, v .1 .1 .1 .1 .1 .1 .0) };
-      refused = λ e. absurd (let z : _≡_ {A = ℕ} 0 1 = cc in omega arith) }
+        sheet-literals = omega (arith, ul, v .1 .1 .1 .1 .1 .1 .0);
+      };
+      refused = λ e. absurd (let z : _≡_ {A = ℕ} 0 1 = cc in omega arith);
+    }

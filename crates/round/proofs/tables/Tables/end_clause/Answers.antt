@@ -27,4 +27,5 @@ returns c =
       clauses = ap₂ (λ (x y : List ℕ). clauses-in (rows x y ps)) io ie ∙ clauses-end os ss ps w o;
       body = ap₂ (λ (x y : List ℕ). unfinished (rows x y ps)) io ie ∙ body-end os ss ps w o;
       clauses-count = c .push-reserved .ensures .len;
-      places-count = refl }
+      places-count = refl;
+    }
