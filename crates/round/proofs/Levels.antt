@@ -5,10 +5,20 @@ use mathlib.Core.Logic.{_⊎_, inl, inr, ⊎-elim}
 use mathlib.Core.List.{List}
 use native.Mathlib.Omega.{arith}
 use lib.ListN.{length, getD}
-use Rattle.std.proofs.shelf.Tests.{cases-lt, cases-order}
-use Rattle.round.proofs.Sets.{split}
 use Rattle.round.specs.Rows.{at, Rows, Body, Filled, Lawful-rows}
-use Rattle.round.specs.Ranks.{Level, Rank}
+
+-- Level k holds the conditions with a pebbling of length at most k: the outcomes of the clauses whose conditions
+-- are all in the level before.
+abbrev pub Level : Rows → ℕ → ℕ → Type 0
+Level t zero p = ⊥
+Level t (suc k) p =
+    (c : ℕ) × (c < length (t .outs)) × (at (t .outs) c ≡ p) × ((j : ℕ) → Body t c j → Level t k (at (t .places) j))
+
+-- r is the length of the shortest pebblings of p, or 0 if p has none
+pub record Rank (t : Rows) (p r : ℕ) : Type 0 where
+  pub holds : 0 < r → Level t r p
+  pub least : (k : ℕ) → k < r → Level t k p → ⊥
+  pub none : r ≡ 0 → (k : ℕ) → Level t k p → ⊥
 
 -- every ranked condition has a clause with conditions of lower ranks
 abbrev pub Founded : Rows → List ℕ → Type 0
@@ -85,10 +95,3 @@ are-ranks n t w rank f g p h = record {
   least = λ k l v. omega (arith, full n t w rank g k p h v);
   none = λ e k v. omega (arith, full n t w rank g k p h v);
 }
-
--- a condition has one rank, so the contract fixes the table
-pub rank-unique : (t : Rows) (p r s : ℕ) → Rank t p r → Rank t p s → r ≡ s
-rank-unique t p r s a b = split (cases-order r s) (λ e. e) (λ o. absurd (split o (below r s a b) (below s r b a)))
-  where
-    below : (x y : ℕ) → Rank t p x → Rank t p y → x < y → ⊥
-    below x y u v l = split (cases-lt 0 x) (λ k. v .least x l (u .holds k)) (λ k. u .none (omega arith) y (v .holds (omega arith)))

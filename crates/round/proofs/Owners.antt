@@ -7,7 +7,7 @@ use native.Mathlib.Omega.{arith}
 use lib.ListN.{length}
 use Rattle.std.proofs.shelf.Tests.{cases-lt}
 use Rattle.round.specs.Rows.{at, Rows, Body, Filled}
-use Rattle.round.specs.Steps.{Owned}
+use Rattle.round.specs.Occurrences.{Owned}
 
 starts-up : (t : Rows) → Filled t → (a d : ℕ) → a + d ≤ length (t .outs) → at (t .starts) a ≤ at (t .starts) (a + d)
 starts-up t w a zero h = let e : at (t .starts) a ≡ at (t .starts) (a + 0) = ap (at (t .starts)) (omega arith) in omega arith

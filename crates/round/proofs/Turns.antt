@@ -7,12 +7,12 @@ use native.Mathlib.Omega.{arith}
 use lib.ListN.{length, set}
 use Rattle.std.proofs.shelf.Tests.{cases-lt, cases-eq}
 use Rattle.round.specs.Rows.{at, Rows, Body, Filled, Lawful-rows}
-use Rattle.round.specs.Ranks.{Rank}
-use Rattle.round.specs.Steps.{zeros, tally, Chained, Queued, Counted, Close}
+use Rattle.round.specs.Occurrences.{Chained}
+use Rattle.round.specs.Steps.{zeros, total, Queued, Counted, Close}
 use Rattle.round.proofs.Sets.{split, at-same, at-other}
 use Rattle.round.proofs.Zeros.{zeros-le}
-use Rattle.round.proofs.Tallies.{tally-same, tally-ones, tally-none}
-use Rattle.round.proofs.Levels.{within, condition, are-ranks}
+use Rattle.round.proofs.Totals.{total-same, total-ones, total-none}
+use Rattle.round.proofs.Levels.{Rank, within, condition, are-ranks}
 
 -- the same cursor, written otherwise
 pub counted-at : (t : Rows) (m : ℕ) (rank queue count : List ℕ) (done next tail level p cursor p′ cursor′ : ℕ)
@@ -25,9 +25,9 @@ pub counted-first : (t : Rows) (rank queue count first next : List ℕ) (head ta
     → Counted t (length (t .outs)) rank queue count head head tail level 0 0
     → Counted t (length (t .outs)) rank queue count head (head + 1) tail level (at queue head) (at first (at queue head))
 counted-first t rank queue count first next head tail level ch l w = record {
-  unstruck = w .unstruck;
+  pending = w .pending;
   counts = w .counts;
-  struck = w .struck;
+  discharged = w .discharged;
   unranked = w .unranked;
   gone = w .gone;
   distinct = w .distinct;
@@ -43,9 +43,9 @@ pub counted-next : (t : Rows) (rank queue count first next : List ℕ) (done aft
     → Counted t (length (t .outs)) rank queue count done after tail level (at (t .places) place) place
     → Counted t (length (t .outs)) rank queue count done after tail level (at (t .places) place) (at next place)
 counted-next t rank queue count first next done after tail level place ch l w = record {
-  unstruck = w .unstruck;
+  pending = w .pending;
   counts = w .counts;
-  struck = w .struck;
+  discharged = w .discharged;
   unranked = w .unranked;
   gone = w .gone;
   distinct = w .distinct;
@@ -62,9 +62,9 @@ pub counted-last : (n : ℕ) (t : Rows) → Lawful-rows n t → (rank queue coun
     → Counted t (length (t .outs)) rank queue count head (head + 1) tail level p 0
     → Counted t (length (t .outs)) rank queue count (head + 1) (head + 1) tail level 0 0
 counted-last n t lw rank queue count head tail level p at-head w = record {
-  unstruck = w .unstruck;
+  pending = w .pending;
   counts = w .counts;
-  struck = w .struck;
+  discharged = w .discharged;
   unranked = w .unranked;
   distinct = w .distinct;
   closed = w .closed;
@@ -95,7 +95,7 @@ queued-level t rank queue head end tail level e q = record {
 counted-level : (t : Rows) (m : ℕ) (rank queue count : List ℕ) (head tail level : ℕ)
     → Counted t m rank queue count head head tail level 0 0 → Counted t m rank queue count head head tail (level + 1) 0 0
 counted-level t m rank queue count head tail level w = record {
-  unstruck = w .unstruck;
+  pending = w .pending;
   counts = w .counts;
   unranked = w .unranked;
   gone = w .gone;
@@ -104,7 +104,7 @@ counted-level t m rank queue count head tail level w = record {
   waiting = w .waiting;
   here = w .here;
   gone-here = w .gone-here;
-  struck = λ j h z. let v = w .struck j h z in (omega arith, omega arith);
+  discharged = λ j h z. let v = w .discharged j h z in (omega arith, omega arith);
 }
 
 -- at the head of the queue, after the step to the next level if the last one is done
@@ -145,9 +145,9 @@ queued-none t rank queue h = record {
 
 pub counted-none : (t : Rows) (rank queue count : List ℕ) → Counted t 0 rank queue count 0 0 0 0 0 0
 counted-none t rank queue count = record {
-  unstruck = λ _. 1;
+  pending = λ _. 1;
   counts = λ c h. absurd (omega arith);
-  struck = λ j h z. absurd (omega arith);
+  discharged = λ j h z. absurd (omega arith);
   unranked = λ j h z. refl;
   waiting = λ i j h a b z. refl;
   here = λ j a z. refl;
@@ -168,12 +168,12 @@ counted-more n t lw c rank queue count tail l sp close q w =
     let count′ : List ℕ = set count c k in
     let new : at count′ c ≡ k = at-same count c k c (omega arith) refl in
     let old : (d : ℕ) → (d ≡ c → ⊥) → at count′ d ≡ at count d = λ d ne. at-other count c k d ne in
-    let ones : (j : ℕ) → j < length (t .places) → w .unstruck j ≡ 1 = λ j h. split (cases-lt 0 (at rank (at (t .places) j)))
+    let ones : (j : ℕ) → j < length (t .places) → w .pending j ≡ 1 = λ j h. split (cases-lt 0 (at rank (at (t .places) j)))
     (λ z. let g = q .listed (at (t .places) j) z in w .waiting (g .0) j h (omega arith) (g .1) (g .2))
     (λ z. w .unranked j h (omega arith)) in
     record {
-      unstruck = w .unstruck;
-      struck = w .struck;
+      pending = w .pending;
+      discharged = w .discharged;
       unranked = w .unranked;
       gone = w .gone;
       distinct = w .distinct;
@@ -181,8 +181,8 @@ counted-more n t lw c rank queue count tail l sp close q w =
       here = w .here;
       gone-here = w .gone-here;
       counts = λ d h. split (cases-eq d c)
-          (λ e. rw (e, new) (sym (tally-same (λ _. 1) (w .unstruck) (at (t .starts) c) k
-          (λ j a b. ones j (omega (arith, a, b, lw .rows .rising c l, within t (lw .rows) (c + 1) (omega arith)))) ∙ tally-ones (at (t .starts) c) k)))
+          (λ e. rw (e, new) (sym (total-same (λ _. 1) (w .pending) (at (t .starts) c) k
+          (λ j a b. ones j (omega (arith, a, b, lw .rows .rising c l, within t (lw .rows) (c + 1) (omega arith)))) ∙ total-ones (at (t .starts) c) k)))
           (λ ne. old d ne ∙ w .counts d (omega arith));
       closed = λ d h a b. split (cases-eq d c)
           (λ x. rw x (close (sym new ∙ (rw x at a)) (rw x at b)))
@@ -195,7 +195,7 @@ pub finished : (n : ℕ) (t : Rows) → Lawful-rows n t → (rank queue count : 
     → (p : ℕ) → 0 < p → Rank t p (at rank p)
 finished n t lw rank queue count head end tail level done q w = are-ranks n t lw rank (q .founded)
     (λ c k l pos body.
-    let none : at count c ≡ 0 = w .counts c l ∙ tally-none (w .unstruck) (at (t .starts) c) (at (t .starts) (c + 1) - at (t .starts) c)
+    let none : at count c ≡ 0 = w .counts c l ∙ total-none (w .pending) (at (t .starts) c) (at (t .starts) (c + 1) - at (t .starts) c)
     (λ j a b. let v = body j (a, omega (arith, a, b)) in
     let g = q .listed (at (t .places) j) (v .0) in
     w .gone (g .0) j (omega (arith, a, b, lw .rows .rising c l, within t (lw .rows) (c + 1) (omega arith))) (omega (arith, g .1)) (g .2)) in

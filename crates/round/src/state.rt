@@ -1,0 +1,106 @@
+// What a round is made of: the clauses, the rank of each condition, and tables for the computation of ranks.
+ghost use mathlib.Core.Path.{_≡_};
+ghost use Rattle.std.specs.Of.Vec.{vec-items};
+ghost use Rattle.std.specs.Vec.{made};
+ghost use Rattle.horn.specs.Sheets.{empty-sheet};
+ghost use Rattle.horn.specs.Bans.{discharged as discharged-places};
+ghost use Rattle.round.specs.Answers.{Opens};
+ghost use Rattle.round.specs.Ranks.{Ranks, Scanned};
+ghost use Rattle.round.specs.Replies.{opening-answer, sheet-left};
+ghost use Rattle.round.specs.Good.{Good, Stocked, Usable, state-sheet};
+use crate::propagation::Scratch;
+use crate::propagation::count_discharged;
+use crate::propagation::lowest_broken;
+use crate::propagation::ranks;
+use crate::refusals::Opened;
+use crate::refusals::Refusal;
+use crate::tables::Tables;
+use horn::source::Source;
+use std::alloc::AllocError;
+use std::alloc::Global;
+
+#[derive(Drop)]
+pub(crate) struct State {
+    pub(crate) tables: Tables,
+    pub(crate) rank: Vec<u16>,
+    scratch: Scratch,
+}
+
+impl State {
+    // Without clauses and conditions.
+    pub(crate) fn new(heap: Global) -> Result<State, AllocError>
+        ensures { λ r. ⌜ made r (λ s. Good s × (state-sheet s ≡ empty-sheet)) ⌝ }
+    {
+        let tables = Tables::new(heap)?;
+        let rank = vec![in heap; 0; 1001]?;
+        let scratch = Scratch::new(heap)?;
+        Ok(State {
+            tables,
+            rank,
+            scratch,
+        })
+    }
+
+    // Empties the tables.
+    fn empty(&mut self)
+        requires { ⌜ Usable (now self) ⌝ }
+        ensures good { λ _. ⌜ Good (now (self .exit)) ⌝ }
+        ensures sheet { λ _. ⌜ state-sheet (now (self .exit)) ≡ empty-sheet ⌝ }
+    {
+        self.tables.clear();
+        self.rank.fill(0);
+    }
+
+    // Ranks the conditions anew.
+    fn rank_conditions(&mut self)
+        requires { ⌜ Stocked (now self) ⌝ }
+        ensures tables { λ _. ⌜ now (self .exit) .tables ≡ now (self .entry) .tables ⌝ }
+        ensures stocked { λ _. ⌜ Stocked (now (self .exit)) ⌝ }
+        ensures ranked { λ _. ⌜ Ranks (state-sheet (now (self .exit))) (vec-items (now (self .exit) .rank)) ⌝ }
+    {
+        ranks(self.tables.rows(), &mut self.rank, &mut self.scratch);
+    }
+
+    // The lowest broken ban, if there is one.
+    fn broken(&self) -> Option<u16>
+        requires stocked { ⌜ Stocked (now self) ⌝ }
+        requires ranked { ⌜ Ranks (state-sheet (now self)) (vec-items (now self .rank)) ⌝ }
+        ensures { λ r. ⌜ Scanned (state-sheet (now (self .entry))) r ⌝ }
+    {
+        lowest_broken(self.tables.rows(), &self.rank)
+    }
+
+    // How many body places are discharged.
+    fn discharged(&self) -> u16
+        requires stocked { ⌜ Stocked (now self) ⌝ }
+        requires ranked { ⌜ Ranks (state-sheet (now self)) (vec-items (now self .rank)) ⌝ }
+        ensures { λ r. ⌜ r ≡ discharged-places (state-sheet (now (self .entry))) ⌝ }
+    {
+        count_discharged(self.tables.rows(), &self.rank)
+    }
+
+    // Copies a source's clauses, ranks the conditions and looks for a broken ban. Refused, it is left empty.
+    pub(crate) fn open<S: Source>(&mut self, source: &S) -> Result<Opened, Refusal>
+        requires { ⌜ Usable (now self) ⌝ }
+        ensures good { λ _. ⌜ Good (now (self .exit)) ⌝ }
+        ensures answer { λ r. ⌜ Opens (S·Source .sheet (now (source .entry))) (opening-answer r) ⌝ }
+        ensures sheet { λ r. ⌜ state-sheet (now (self .exit)) ≡ sheet-left r (S·Source .sheet (now (source .entry))) ⌝ }
+    {
+        if !self.tables.fill_from(source) {
+            self.empty();
+            return Err(Refusal::TooLarge);
+        }
+        self.rank_conditions();
+        match self.broken() {
+            Some(ban) => {
+                self.empty();
+                Err(Refusal::Contradiction(ban))
+            }
+            None => Ok(Opened {
+                clauses: self.tables.clauses(),
+                conditions: self.tables.conditions,
+                discharged: self.discharged(),
+            }),
+        }
+    }
+}
