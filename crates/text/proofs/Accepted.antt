@@ -34,9 +34,9 @@ occurs b s (suc i) n l h =
     ⊎-elim
     (λ (q : n < many b s i). let r = occurs b s i n (omega arith) q in (r .0, omega (arith, r .1), r .2, r .3))
     (λ (q : many b s i ≤ n). ⊎-elim
-      (λ (t : eqb (getD s i 0) b ≡ true). (i, omega arith, eqb-true (getD s i 0) b t, omega (arith, rw t at m)))
-      (λ (t : eqb (getD s i 0) b ≡ false). absurd (omega (arith, rw t at m)))
-      (cases-bool (eqb (getD s i 0) b)))
+    (λ (t : eqb (getD s i 0) b ≡ true). (i, omega arith, eqb-true (getD s i 0) b t, omega (arith, rw t at m)))
+    (λ (t : eqb (getD s i 0) b ≡ false). absurd (omega (arith, rw t at m)))
+    (cases-bool (eqb (getD s i 0) b)))
     (cases-lt n (many b s i))
 
 -- a byte b at place i counts
@@ -114,24 +114,25 @@ module _ (t : Text) (s : List ℕ) (e : Spells t s) (h : Keeps-limits (clauses t
   no-many i = ⊎-elim
       (λ (o : (getD s i 0 ≡ 40) × (many 40 s i ≡ 2000)). omega (arith, counts-here 40 s i (o .0) (omega arith), o .1, opens-all, h .few-clauses))
       (λ (o : Begins s i × (many 80 s i ≡ 8000)). ⊎-elim
-        (λ (q : getD s i 0 ≡ 126).
-          let p : getD s (i + 1) 0 ≡ 80 = subst Follows e (follows-text t) i q in
-          let l : i < length s = ⊎-elim (λ (l : i < length s). l) (λ (l : length s ≤ i). absurd (omega (arith, getD-past s i 0 l))) (cases-lt i (length s)) in
-          let m = rw q at (many-more 80 s i l) in
-          omega (arith, counts-here 80 s (i + 1) p (omega arith), m, o .1, letters-all, h .few-literals))
-        (λ (q : (getD s i 0 ≡ 80) × (Negated s i → ⊥)). omega (arith, counts-here 80 s i (q .0) (omega arith), o .1, letters-all, h .few-literals))
-        (o .0))
+      (λ (q : getD s i 0 ≡ 126).
+      let p : getD s (i + 1) 0 ≡ 80 = subst Follows e (follows-text t) i q in
+      let l : i < length s = ⊎-elim (λ (l : i < length s). l) (λ (l : length s ≤ i). absurd (omega (arith, getD-past s i 0 l))) (cases-lt i (length s)) in
+      let m = rw q at (many-more 80 s i l) in
+      omega (arith, counts-here 80 s (i + 1) p (omega arith), m, o .1, letters-all, h .few-literals))
+      (λ (q : (getD s i 0 ≡ 80) × (Negated s i → ⊥)). omega (arith, counts-here 80 s i (q .0) (omega arith), o .1, letters-all, h .few-literals))
+      (o .0))
 
   pub keeps-good : Good s (length (clauses t)) (top-of (clauses t)) (literals (clauses t))
-  keeps-good = record
-    { tree = t
-    ; spells = e
-    ; none = λ g j. ⊎-elim
+  keeps-good = record {
+    tree = t;
+    spells = e;
+    none = λ g j. ⊎-elim
         (λ p. p .1 t e)
-        (λ p. ⊎-elim (λ q. no-great j (q .1)) (⊎-elim (λ q. no-repeats t s e (h .different) j (q .1)) (λ q. no-many j (q .1))) (p .1))
-    ; m-is = refl
-    ; k-is = refl
-    ; n-is = refl }
+        (λ p. ⊎-elim (λ q. no-great j (q .1)) (⊎-elim (λ q. no-repeats t s e (h .different) j (q .1)) (λ q. no-many j (q .1))) (p .1));
+    m-is = refl;
+    k-is = refl;
+    n-is = refl;
+  }
 
 -- the clauses of a good text keep the limits
 module _ (s : List ℕ) (m k n : ℕ) (g : Good s m k n) where
@@ -141,35 +142,36 @@ module _ (s : List ℕ) (m k n : ℕ) (g : Good s m k n) where
   few-clauses : length (clauses (g .tree)) ≤ 2000
   few-clauses = ⊎-elim
       (λ (q : 2000 < length (clauses (g .tree))).
-        let r = occurs 40 s (length s) 2000 (omega arith) (omega (arith, all-counted 40 s, ap (countBy (λ x. eqb x 40)) (g .spells), opens (g .tree) [])) in
-        absurd (no-more (r .0) (r .1) (inl (r .2, r .3))))
+      let r = occurs 40 s (length s) 2000 (omega arith) (omega (arith, all-counted 40 s, ap (countBy (λ x. eqb x 40)) (g .spells), opens (g .tree) [])) in
+      absurd (no-more (r .0) (r .1) (inl (r .2, r .3))))
       (λ (q : length (clauses (g .tree)) ≤ 2000). q)
       (cases-lt 2000 (length (clauses (g .tree))))
 
   few-literals : literals (clauses (g .tree)) ≤ 8000
   few-literals = ⊎-elim
       (λ (q : 8000 < literals (clauses (g .tree))).
-        let r = occurs 80 s (length s) 8000 (omega arith) (omega (arith, all-counted 80 s, ap (countBy (λ x. eqb x 80)) (g .spells), letters (g .tree) [])) in
-        let i = r .0 in
-        absurd (⊎-elim
-          (λ (z : getD s (i - 1) 0 ≡ 126). ⊎-elim
-            (λ (p : 0 < i).
-              let y : i - 1 + 1 ≡ i = omega arith in
-              let a = rw z at (many-more 80 s (i - 1) (omega (arith, r .1))) in
-              no-more (i - 1) (omega (arith, r .1)) (inr (inl z, omega (arith, a, ap (many 80 s) y, r .3))))
-            (λ (p : i ≤ 0). no-more i (r .1) (inr (inr (r .2, λ w. omega (arith, w .0)), r .3)))
-            (cases-lt 0 i))
-          (λ (z : getD s (i - 1) 0 ≡ 126 → ⊥). no-more i (r .1) (inr (inr (r .2, λ w. z (w .1)), r .3)))
-          (cases-eq (getD s (i - 1) 0) 126)))
+      let r = occurs 80 s (length s) 8000 (omega arith) (omega (arith, all-counted 80 s, ap (countBy (λ x. eqb x 80)) (g .spells), letters (g .tree) [])) in
+      let i = r .0 in
+      absurd (⊎-elim
+      (λ (z : getD s (i - 1) 0 ≡ 126). ⊎-elim
+      (λ (p : 0 < i).
+      let y : i - 1 + 1 ≡ i = omega arith in
+      let a = rw z at (many-more 80 s (i - 1) (omega (arith, r .1))) in
+      no-more (i - 1) (omega (arith, r .1)) (inr (inl z, omega (arith, a, ap (many 80 s) y, r .3))))
+      (λ (p : i ≤ 0). no-more i (r .1) (inr (inr (r .2, λ w. omega (arith, w .0)), r .3)))
+      (cases-lt 0 i))
+      (λ (z : getD s (i - 1) 0 ≡ 126 → ⊥). no-more i (r .1) (inr (inr (r .2, λ w. z (w .1)), r .3)))
+      (cases-eq (getD s (i - 1) 0) 126)))
       (λ (q : literals (clauses (g .tree)) ≤ 8000). q)
       (cases-lt 8000 (literals (clauses (g .tree))))
 
   pub good-keeps : Keeps-limits (clauses (g .tree))
-  good-keeps = record
-    { low = omega (arith, low s m k n g, g .k-is)
-    ; different = all-weaker (Lawful-clause (sheet-in k s)) (λ c. Distinct (c .body)) (λ c l. l .different) (clauses (g .tree)) (subst (All (Lawful-clause (sheet-in k s))) (meaning s m k n g) (lawful s m k n g))
-    ; few-clauses = few-clauses
-    ; few-literals = few-literals }
+  good-keeps = record {
+    low = omega (arith, low s m k n g, g .k-is);
+    different = all-weaker (Lawful-clause (sheet-in k s)) (λ c. Distinct (c .body)) (λ c l. l .different) (clauses (g .tree)) (subst (All (Lawful-clause (sheet-in k s))) (meaning s m k n g) (lawful s m k n g));
+    few-clauses = few-clauses;
+    few-literals = few-literals;
+  }
 
 pub accepted-exactly : Accepted-exactly
 accepted-exactly s short = (λ c j. (j .1 .tree, j .1 .spells, good-keeps s _ _ _ (j .1)), λ t e h. (short, keeps-good t s e h))

@@ -13,11 +13,12 @@ module _ (s : List ℕ) (p : ℕ) where
   held-less n j l h = record { before = l; condition = h .condition; negated = h .negated; same = λ k a b. h .same k a (omega arith) }
 
   pub held-more : (n j : ℕ) → (getD s p 0 ≡ 40 → ⊥) → Held s p n j → Held s (p + 1) n j
-  held-more n j o h = record
-    { before = omega (arith, h .before)
-    ; condition = h .condition
-    ; negated = h .negated
-    ; same = λ k a b e. ⊎-elim (λ (q : k ≡ p). o (sym (ap (λ i. getD s i 0) q) ∙ e)) (λ (q : k ≡ p → ⊥). h .same k a (omega arith) e) (cases-eq k p) }
+  held-more n j o h = record {
+    before = omega (arith, h .before);
+    condition = h .condition;
+    negated = h .negated;
+    same = λ k a b e. ⊎-elim (λ (q : k ≡ p). o (sym (ap (λ i. getD s i 0) q) ∙ e)) (λ (q : k ≡ p → ⊥). h .same k a (omega arith) e) (cases-eq k p);
+  }
 
   pub held-here : (n : ℕ) → Names s p n → Negated s p → Held s (p + 1) n p
   held-here n c m = record { before = omega arith; condition = c; negated = m; same = λ k a b. absurd (omega arith) }

@@ -52,7 +52,7 @@ negs seen (one n) x s other d h f =
 negs seen (more n ns) x s other d h f =
     rw (lead-number n 124 (neg-lits ns (x ∷ s)) refl)
     (and-from _ _ (not-from-false (any-of (eqb (value n)) seen) (h .0))
-      (past (value n ∷ seen) n (124 ∷ neg-lits ns (x ∷ s)) ∙ negs (value n ∷ seen) ns x s other (d .1) (one-more (value n) seen (conditions ns) (d .0) (h .1)) f))
+    (past (value n ∷ seen) n (124 ∷ neg-lits ns (x ∷ s)) ∙ negs (value n ∷ seen) ns x s other (d .1) (one-more (value n) seen (conditions ns) (d .0) (h .1)) f))
 
 none-seen : (qs : List ℕ) → All (λ q. any-of (eqb q) [] ≡ false) qs
 none-seen [] = tt
@@ -75,35 +75,39 @@ module _ (s : List ℕ) where
 
   module _ (p : ℕ) (seen : List ℕ) (neg : Bool) (k : Knows p seen neg) where
     after-open : getD s p 0 ≡ 40 → Knows (p + 1) [] false
-    after-open e = record
-      { bodies = λ n j h. absurd (held-none s p n j e h)
-      ; signed = λ h. absurd (omega (arith, signed-next s p h)) }
+    after-open e = record {
+      bodies = λ n j h. absurd (held-none s p n j e h);
+      signed = λ h. absurd (omega (arith, signed-next s p h));
+    }
 
     after-named : getD s p 0 ≡ 80 → Knows (p + 1) (lead-value (drop (p + 1) s) ∷ seen) false
-    after-named e = record
-      { bodies = λ n j h. ⊎-elim
+    after-named e = record {
+      bodies = λ n j h. ⊎-elim
           (λ (q : j ≡ p).
-            let c : Names s p n = subst (λ i. Names s i n) q (h .condition) in
-            or-left (eqb n (lead-value (drop (p + 1) s))) (any-of (eqb n) seen) (eq-eqb n (lead-value (drop (p + 1) s)) (sym (lead-is s p n c))))
+          let c : Names s p n = subst (λ i. Names s i n) q (h .condition) in
+          or-left (eqb n (lead-value (drop (p + 1) s))) (any-of (eqb n) seen) (eq-eqb n (lead-value (drop (p + 1) s)) (sym (lead-is s p n c))))
           (λ (q : j ≡ p → ⊥). or-right (eqb n (lead-value (drop (p + 1) s))) (any-of (eqb n) seen) (k .bodies n j (held-less s p n j (omega (arith, h .before, q)) h)))
-          (cases-eq j p)
-      ; signed = λ h. absurd (omega (arith, signed-next s p h)) }
+          (cases-eq j p);
+      signed = λ h. absurd (omega (arith, signed-next s p h));
+    }
 
     after-outcome : neg ≡ false → getD s p 0 ≡ 80 → Knows (p + 1) seen false
-    after-outcome e l = record
-      { bodies = λ n j h. ⊎-elim
+    after-outcome e l = record {
+      bodies = λ n j h. ⊎-elim
           (λ (q : j ≡ p). absurd (both-ways neg e (k .signed (subst (Negated s) q (h .negated)))))
           (λ (q : j ≡ p → ⊥). k .bodies n j (held-less s p n j (omega (arith, h .before, q)) h))
-          (cases-eq j p)
-      ; signed = λ h. absurd (omega (arith, signed-next s p h)) }
+          (cases-eq j p);
+      signed = λ h. absurd (omega (arith, signed-next s p h));
+    }
 
     after-other : (getD s p 0 ≡ 80 → ⊥) → Knows (p + 1) seen (eqb (getD s p 0) 126)
-    after-other m = record
-      { bodies = λ n j h. ⊎-elim
+    after-other m = record {
+      bodies = λ n j h. ⊎-elim
           (λ (q : j ≡ p). absurd (m (sym (ap (λ i. getD s i 0) q) ∙ h .condition .letter)))
           (λ (q : j ≡ p → ⊥). k .bodies n j (held-less s p n j (omega (arith, h .before, q)) h))
-          (cases-eq j p)
-      ; signed = λ h. eq-eqb (getD s p 0) 126 (signed-next s p h) }
+          (cases-eq j p);
+      signed = λ h. eq-eqb (getD s p 0) 126 (signed-next s p h);
+    }
 
     not-again : any-of (eqb (lead-value (drop (p + 1) s))) seen ≡ false → Repeats s p → ⊥
     not-again e r =
@@ -121,27 +125,27 @@ module _ (s : List ℕ) where
       let lead : lead-value bs ≡ lead-value (drop (p + 1) s) = ap lead-value rest in
       ⊎-elim
       (λ (t : eqb b 40 ≡ true).
-        let o : getD s p 0 ≡ 40 = at ∙ eqb-true b 40 t in
-        here-or-later p (λ r. omega (arith, o, r .1 .letter)) (clear bs (p + 1) [] false rest (after-open p seen neg k o) (rw t at f)))
+      let o : getD s p 0 ≡ 40 = at ∙ eqb-true b 40 t in
+      here-or-later p (λ r. omega (arith, o, r .1 .letter)) (clear bs (p + 1) [] false rest (after-open p seen neg k o) (rw t at f)))
       (λ (t : eqb b 40 ≡ false).
-        let f₁ : cond (eqb b 80) (cond neg (not (any-of (eqb (lead-value bs)) seen) && fresh (lead-value bs ∷ seen) false bs) (fresh seen false bs)) (fresh seen (eqb b 126) bs) ≡ true = rw t at f in
-        ⊎-elim
-        (λ (v : eqb b 80 ≡ true).
-          let o : getD s p 0 ≡ 80 = at ∙ eqb-true b 80 v in
-          let f₂ : cond neg (not (any-of (eqb (lead-value bs)) seen) && fresh (lead-value bs ∷ seen) false bs) (fresh seen false bs) ≡ true = rw v at f₁ in
-          ⊎-elim
-          (λ (w : neg ≡ true).
-            let f₃ : (not (any-of (eqb (lead-value bs)) seen) && fresh (lead-value bs ∷ seen) false bs) ≡ true = rw w at f₂ in
-            let z = and-parts (not (any-of (eqb (lead-value bs)) seen)) (fresh (lead-value bs ∷ seen) false bs) f₃ in
-            here-or-later p (not-again p seen neg k (sym (ap (λ n. any-of (eqb n) seen) lead) ∙ not-true _ (z .0)))
-            (clear bs (p + 1) (lead-value bs ∷ seen) false rest (subst (λ n. Knows (p + 1) (n ∷ seen) false) (sym lead) (after-named p seen neg k o)) (z .1)))
-          (λ (w : neg ≡ false).
-            here-or-later p (λ r. both-ways neg w (k .signed (r .2))) (clear bs (p + 1) seen false rest (after-outcome p seen neg k w o) (rw w at f₂)))
-          (cases-bool neg))
-        (λ (v : eqb b 80 ≡ false).
-          let m : getD s p 0 ≡ 80 → ⊥ = λ q. both-ways (eqb b 80) v (eq-eqb b 80 (sym at ∙ q)) in
-          here-or-later p (λ r. m (r .1 .letter)) (clear bs (p + 1) seen (eqb b 126) rest (subst (λ x. Knows (p + 1) seen (eqb x 126)) at (after-other p seen neg k m)) (rw v at f₁)))
-        (cases-bool (eqb b 80)))
+      let f₁ : cond (eqb b 80) (cond neg (not (any-of (eqb (lead-value bs)) seen) && fresh (lead-value bs ∷ seen) false bs) (fresh seen false bs)) (fresh seen (eqb b 126) bs) ≡ true = rw t at f in
+      ⊎-elim
+      (λ (v : eqb b 80 ≡ true).
+      let o : getD s p 0 ≡ 80 = at ∙ eqb-true b 80 v in
+      let f₂ : cond neg (not (any-of (eqb (lead-value bs)) seen) && fresh (lead-value bs ∷ seen) false bs) (fresh seen false bs) ≡ true = rw v at f₁ in
+      ⊎-elim
+      (λ (w : neg ≡ true).
+      let f₃ : (not (any-of (eqb (lead-value bs)) seen) && fresh (lead-value bs ∷ seen) false bs) ≡ true = rw w at f₂ in
+      let z = and-parts (not (any-of (eqb (lead-value bs)) seen)) (fresh (lead-value bs ∷ seen) false bs) f₃ in
+      here-or-later p (not-again p seen neg k (sym (ap (λ n. any-of (eqb n) seen) lead) ∙ not-true _ (z .0)))
+      (clear bs (p + 1) (lead-value bs ∷ seen) false rest (subst (λ n. Knows (p + 1) (n ∷ seen) false) (sym lead) (after-named p seen neg k o)) (z .1)))
+      (λ (w : neg ≡ false).
+      here-or-later p (λ r. both-ways neg w (k .signed (r .2))) (clear bs (p + 1) seen false rest (after-outcome p seen neg k w o) (rw w at f₂)))
+      (cases-bool neg))
+      (λ (v : eqb b 80 ≡ false).
+      let m : getD s p 0 ≡ 80 → ⊥ = λ q. both-ways (eqb b 80) v (eq-eqb b 80 (sym at ∙ q)) in
+      here-or-later p (λ r. m (r .1 .letter)) (clear bs (p + 1) seen (eqb b 126) rest (subst (λ x. Knows (p + 1) seen (eqb x 126)) at (after-other p seen neg k m)) (rw v at f₁)))
+      (cases-bool (eqb b 80)))
       (cases-bool (eqb b 40))
 
   start : Knows 0 [] false

@@ -53,10 +53,11 @@ front-inside (ban ns) s = front-negs ns s
 
 module _ (s : List ℕ) (m k n : ℕ) (g : Good s m k n) where
   whole : Longest s (length s)
-  whole = record
-    { within = omega arith
-    ; viable = (g .tree, [], g .spells ∙ sym (append-nil (take (length s) s) ∙ take-all (length s) s (omega arith)))
-    ; longest = λ w h _. h }
+  whole = record {
+    within = omega arith;
+    viable = (g .tree, [], g .spells ∙ sym (append-nil (take (length s) s) ∙ take-all (length s) s (omega arith)));
+    longest = λ w h _. h;
+  }
 
   -- no fault of the limits stands in it
   pub whole-limit : (f i : ℕ) → i < length s → Limit s f i → ⊥
@@ -65,9 +66,9 @@ module _ (s : List ℕ) (m k n : ℕ) (g : Good s m k n) where
   pub small : Small s
   small i p c = ⊎-elim
       (λ h. ⊎-elim
-        (λ l. absurd (whole-limit 3 i l (inl (refl, (p, c, h)))))
-        (λ l. absurd (omega (arith, getD-past s i 0 l, c .letter)))
-        (cases-lt i (length s)))
+      (λ l. absurd (whole-limit 3 i l (inl (refl, (p, c, h)))))
+      (λ l. absurd (omega (arith, getD-past s i 0 l, c .letter)))
+      (cases-lt i (length s)))
       (λ h. h) (cases-lt 1000 p)
 
   pub repeats-none : (i : ℕ) → Repeats s i → ⊥
@@ -83,12 +84,13 @@ module _ (s : List ℕ) (m k n : ℕ) (g : Good s m k n) where
   counted = g .m-is ∙ (sym (ap length meaning) ∙ sym (same-length 0 s))
 
   pub meant-good : length s ≤ 60000 → Meant s (sheet-in k s)
-  meant-good short = record
-    { good = λ m′ k′ n′ _ h.
+  meant-good short = record {
+    good = λ m′ k′ n′ _ h.
         let c : clauses-in s ≡ clauses (h .tree) = meaning ∙ one-meaning (g .tree) (h .tree) s (g .spells) (h .spells) in
         let t : k ≡ k′ = g .k-is ∙ (ap top-of (one-meaning (g .tree) (h .tree) s (g .spells) (h .spells)) ∙ sym (h .k-is)) in
-        cc
-    ; refused = λ h. absurd (h m k n short g) }
+        cc;
+    refused = λ h. absurd (h m k n short g);
+  }
 
 pub meant-refused : (s u : List ℕ) (r : Result Counts Fault) (f : Fault) → r ≡ Err f → Judged s r → u ≡ [] → Meant s (sheet-in (conditions-in r) u)
 meant-refused s u r f is j e =

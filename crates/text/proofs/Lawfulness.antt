@@ -121,16 +121,16 @@ module _ (s : List ℕ) where
     at k = ap (λ u. getD u (length pre + k) 0) e ∙ getD-append-add pre (126 ∷ 80 ∷ numeral n (x ∷ rest)) k 0
 
     stands : Names s (length pre + 1) (value n)
-    stands = record
-      { letter = at 1
-      ; leads =
+    stands = record {
+      letter = at 1;
+      leads =
           let h : length pre + 1 + 1 ≡ length pre + 2 = omega arith in
-          ap (λ i. first-digit (getD s i 0)) h ∙ (ap first-digit (at 2) ∙ first-of n (x ∷ rest))
-      ; is =
+          ap (λ i. first-digit (getD s i 0)) h ∙ (ap first-digit (at 2) ∙ first-of n (x ∷ rest));
+      is =
           let h : length pre + 1 + 1 ≡ length (pre ++ (126 ∷ 80 ∷ [])) = omega (arith, length-append pre (126 ∷ 80 ∷ [])) in
           let f : s ≡ (pre ++ (126 ∷ 80 ∷ [])) ++ numeral n (x ∷ rest) = e ∙ sym (append-assoc pre (126 ∷ 80 ∷ []) (numeral n (x ∷ rest))) in
-          sym (ap (λ u. run-value 0 (drop (length pre + 1 + 1) u)) f ∙ (ap (run-value 0) (drop-at (pre ++ (126 ∷ 80 ∷ [])) (numeral n (x ∷ rest)) (length pre + 1 + 1) (sym h)) ∙ run-number n x rest other))
-      }
+          sym (ap (λ u. run-value 0 (drop (length pre + 1 + 1) u)) f ∙ (ap (run-value 0) (drop-at (pre ++ (126 ∷ 80 ∷ [])) (numeral n (x ∷ rest)) (length pre + 1 + 1) (sym h)) ∙ run-number n x rest other));
+    }
 
     negated : Negated s (length pre + 1)
     negated = let h : length pre + 1 - 1 ≡ length pre + 0 = omega arith in (omega arith, ap (λ i. getD s i 0) h ∙ at 0)
@@ -138,35 +138,38 @@ module _ (s : List ℕ) where
   module _ (none : (i : ℕ) → Repeats s i → ⊥) where
     -- two literals with no ( between them are of different conditions
     differ : (pre mid : List ℕ) (n m : Number) (x y : ℕ) (r rest : List ℕ) → digit x ≡ false → digit y ≡ false
-      → s ≡ pre ++ (126 ∷ 80 ∷ numeral n (x ∷ r))
-      → s ≡ (pre ++ (126 ∷ mid)) ++ (126 ∷ 80 ∷ numeral m (y ∷ rest))
-      → NoOpen mid → 0 < length mid → value n ≡ value m → ⊥
+        → s ≡ pre ++ (126 ∷ 80 ∷ numeral n (x ∷ r))
+        → s ≡ (pre ++ (126 ∷ mid)) ++ (126 ∷ 80 ∷ numeral m (y ∷ rest))
+        → NoOpen mid → 0 < length mid → value n ≡ value m → ⊥
     differ pre mid n m x y r rest ox oy e f no-open long same =
         let i = length (pre ++ (126 ∷ mid)) + 1 in
         let w : length (pre ++ (126 ∷ mid)) ≡ length pre + (length mid + 1) = length-append pre (126 ∷ mid) ∙ ap (λ q. length pre + q) (sym (add-one (length mid))) in
-        none i
-          ( value m
-          , stands (pre ++ (126 ∷ mid)) m y rest oy f
-          , negated (pre ++ (126 ∷ mid)) m y rest oy f
-          , ( length pre + 1
-            , record
-              { before = omega (arith, w)
-              ; condition = subst (λ q. Names s (length pre + 1) q) same (stands pre n x r ox e)
-              ; negated = negated pre n x r ox e
-              ; same = λ k lo hi b. ⊎-elim
+        none i (
+          value m,
+          stands (pre ++ (126 ∷ mid)) m y rest oy f,
+          negated (pre ++ (126 ∷ mid)) m y rest oy f,
+          (
+            length pre + 1,
+            record {
+              before = omega (arith, w);
+              condition = subst (λ q. Names s (length pre + 1) q) same (stands pre n x r ox e);
+              negated = negated pre n x r ox e;
+              same = λ k lo hi b. ⊎-elim
                   (λ h. let z : k ≡ length (pre ++ (126 ∷ mid)) + 0 = omega arith in
-                        let c : 126 ≡ 40 = sym (at (pre ++ (126 ∷ mid)) m y rest oy f 0) ∙ (sym (ap (λ q. getD s q 0) z) ∙ b) in omega arith)
+                  let c : 126 ≡ 40 = sym (at (pre ++ (126 ∷ mid)) m y rest oy f 0) ∙ (sym (ap (λ q. getD s q 0) z) ∙ b) in omega arith)
                   (λ h. let q = k - (length pre + 1) in
-                        let z : k ≡ length pre + suc q = omega arith in
-                        let l : k < length (pre ++ (126 ∷ mid)) = omega arith in
-                        no-open q (sym (getD-append-add pre (126 ∷ mid) (suc q) 0) ∙ (ap (λ u. getD (pre ++ (126 ∷ mid)) u 0) (sym z) ∙ (sym (getD-append-left (pre ++ (126 ∷ mid)) (126 ∷ 80 ∷ numeral m (y ∷ rest)) 0 k l) ∙ (sym (ap (λ u. getD u k 0) f) ∙ b)))))
-                  (cases-eq k (length (pre ++ (126 ∷ mid))))
-              }))
+                  let z : k ≡ length pre + suc q = omega arith in
+                  let l : k < length (pre ++ (126 ∷ mid)) = omega arith in
+                  no-open q (sym (getD-append-add pre (126 ∷ mid) (suc q) 0) ∙ (ap (λ u. getD (pre ++ (126 ∷ mid)) u 0) (sym z) ∙ (sym (getD-append-left (pre ++ (126 ∷ mid)) (126 ∷ 80 ∷ numeral m (y ∷ rest)) 0 k l) ∙ (sym (ap (λ u. getD u k 0) f) ∙ b)))))
+                  (cases-eq k (length (pre ++ (126 ∷ mid))));
+            },
+          ),
+        )
 
     absent : (pre mid : List ℕ) (n : Number) (x : ℕ) (r : List ℕ) (ns : NegLits) (y : ℕ) (rest : List ℕ) → digit x ≡ false → digit y ≡ false
-      → s ≡ pre ++ (126 ∷ 80 ∷ numeral n (x ∷ r))
-      → s ≡ (pre ++ (126 ∷ mid)) ++ neg-lits ns (y ∷ rest)
-      → NoOpen mid → 0 < length mid → any-of (eqb (value n)) (conditions ns) ≡ false
+        → s ≡ pre ++ (126 ∷ 80 ∷ numeral n (x ∷ r))
+        → s ≡ (pre ++ (126 ∷ mid)) ++ neg-lits ns (y ∷ rest)
+        → NoOpen mid → 0 < length mid → any-of (eqb (value n)) (conditions ns) ≡ false
     absent pre mid n x r (one m) y rest ox oy e f no-open long = rw (ne-eqb (value n) (value m) (differ pre mid n m x y r rest ox oy e f no-open long))
     absent pre mid n x r (more m ns) y rest ox oy e f no-open long =
         let h = absent pre (mid ++ literal m) n x r ns y rest ox oy e (f ∙ shift pre mid m (neg-lits ns (y ∷ rest))) (no-open-++ mid (literal m) no-open (no-open-literal m)) (omega (arith, length-append mid (literal m))) in
@@ -176,9 +179,10 @@ module _ (s : List ℕ) where
     distinct pre (one n) y rest oy e = (refl, tt)
     distinct pre (more n ns) y rest oy e =
         let mid = 80 ∷ (numeral n [] ++ (124 ∷ [])) in
-        let f : s ≡ (pre ++ (126 ∷ mid)) ++ neg-lits ns (y ∷ rest) = e ∙ (ap (λ u. pre ++ u) (literal-split n (neg-lits ns (y ∷ rest))) ∙ sym (append-assoc pre (literal n) (neg-lits ns (y ∷ rest)))) in
-        ( absent pre mid n 124 (neg-lits ns (y ∷ rest)) ns y rest refl oy e f (no-open-tail n) (omega arith)
-        , distinct (pre ++ (126 ∷ mid)) ns y rest oy f )
+        let f : s ≡ (pre ++ (126 ∷ mid)) ++ neg-lits ns (y ∷ rest) = e ∙ (ap (λ u. pre ++ u) (literal-split n (neg-lits ns (y ∷ rest))) ∙ sym (append-assoc pre (literal n) (neg-lits ns (y ∷ rest)))) in (
+          absent pre mid n 124 (neg-lits ns (y ∷ rest)) ns y rest refl oy e f (no-open-tail n) (omega arith),
+          distinct (pre ++ (126 ∷ mid)) ns y rest oy f,
+        )
 
     distinct-basic : (pre : List ℕ) (c : Basic) (rest : List ℕ) → s ≡ pre ++ basic c rest → Distinct (clause c .body)
     distinct-basic pre (fact n) rest e = tt
@@ -191,7 +195,7 @@ module _ (s : List ℕ) where
         let a = front-inside c (41 ∷ 38 ∷ text t []) in
         let head = 40 ∷ (a .0 ++ (41 ∷ 38 ∷ [])) in
         let f : s ≡ (pre ++ head) ++ text t [] =
-            e ∙ (ap (λ u. pre ++ (40 ∷ u)) (a .1 ∙ sym (append-assoc (a .0) (41 ∷ 38 ∷ []) (text t []))) ∙ sym (append-assoc pre head (text t []))) in
+        e ∙ (ap (λ u. pre ++ (40 ∷ u)) (a .1 ∙ sym (append-assoc (a .0) (41 ∷ 38 ∷ []) (text t []))) ∙ sym (append-assoc pre head (text t []))) in
         (lawful-basic x c (omega arith) (distinct-basic pre c (38 ∷ text t []) e), each x (pre ++ head) t f (omega arith))
 
 top-low : (s : List ℕ) → Small s → (u : List ℕ) (j : ℕ) → u ≡ drop j s → top-in u ≤ 1000
@@ -202,12 +206,12 @@ top-low s sm (b ∷ bs) j e =
     let g : getD s j 0 ≡ b = sym (at-drop s j) ∙ ap (λ x. getD x 0 0) (sym e) in
     ⊎-elim
     (λ t.
-      let p : getD s j 0 ≡ 80 = g ∙ eqb-true b 80 t in
-      let l : lead-value (drop (j + 1) s) ≤ 1000 = ⊎-elim
-            (λ d. let c : Names s j (run-value 0 (drop (j + 1) s)) = record { letter = p; leads = d; is = refl } in omega (arith, lead-is s j (run-value 0 (drop (j + 1) s)) c, sm j (run-value 0 (drop (j + 1) s)) c))
-            (λ d. omega (arith, lead-absent s j p (λ n c. false≢true (sym d ∙ c .leads))))
-            (cases-bool (first-digit (getD s (j + 1) 0))) in
-      rw t (omega (arith, h, l, ap lead-value e′)))
+    let p : getD s j 0 ≡ 80 = g ∙ eqb-true b 80 t in
+    let l : lead-value (drop (j + 1) s) ≤ 1000 = ⊎-elim
+    (λ d. let c : Names s j (run-value 0 (drop (j + 1) s)) = record { letter = p; leads = d; is = refl } in omega (arith, lead-is s j (run-value 0 (drop (j + 1) s)) c, sm j (run-value 0 (drop (j + 1) s)) c))
+    (λ d. omega (arith, lead-absent s j p (λ n c. false≢true (sym d ∙ c .leads))))
+    (cases-bool (first-digit (getD s (j + 1) 0))) in
+    rw t (omega (arith, h, l, ap lead-value e′)))
     (λ t. rw t h)
     (cases-bool (eqb b 80))
 

@@ -26,23 +26,23 @@ module _ (s : List ℕ) where
   v = reach Start s
 
   reported-limit : (f i : ℕ) → i < v → Limit s f i → ((g : ℕ) → Limit s g i → f ≤ g) → Clear s i → Reported s f i
-  reported-limit f i below l least before = record
-    { is = inr ((v, longest s, below), l)
-    ; lowest = λ g j. ⊎-elim
+  reported-limit f i below l least before = record {
+    is = inr ((v, longest s, below), l);
+    lowest = λ g j. ⊎-elim
         (λ p. inl (omega (arith, only s v j (longest s) (p .2))))
         (λ p. ⊎-elim
-          (λ e. inr (e, least g (subst (λ x. Limit s g x) (sym e) (p .1))))
-          (⊎-elim (λ h. inl h) (λ h. absurd (before j h g (p .1))))
-          (cases-order i j))
-    }
+        (λ e. inr (e, least g (subst (λ x. Limit s g x) (sym e) (p .1))))
+        (⊎-elim (λ h. inl h) (λ h. absurd (before j h g (p .1))))
+        (cases-order i j));
+  }
 
   reported-outside : accepts Start s ≡ false → Clear s v → Reported s 2 v
-  reported-outside out none = record
-    { is = inl (refl, outside s out, longest s)
-    ; lowest = λ g j. ⊎-elim
+  reported-outside out none = record {
+    is = inl (refl, outside s out, longest s);
+    lowest = λ g j. ⊎-elim
         (λ p. inr (only s v j (longest s) (p .2), omega (arith, p .0)))
-        (λ p. absurd (none j (omega (arith, only s v (p .0 .0) (longest s) (p .0 .1), p .0 .2)) g (p .1)))
-    }
+        (λ p. absurd (none j (omega (arith, only s v (p .0 .0) (longest s) (p .0 .1), p .0 .2)) g (p .1)));
+  }
 
   module _ (inside : accepts Start s ≡ true) where
     all-read : v ≡ length s
@@ -57,13 +57,13 @@ module _ (s : List ℕ) where
         let t = sound Start s inside in
         let whole : take v s ≡ s = take-all v s (omega (arith, all-read)) in
         let past : drop v s ≡ [] = drop-all v s (omega (arith, all-read)) in
-        record
-        { tree = t .0
-        ; spells = t .1
-        ; none = λ g j. ⊎-elim (λ p. p .1 (t .0) (t .1)) (λ p. none j (omega (arith, only s v (p .0 .0) (longest s) (p .0 .1), p .0 .2)) g (p .1))
-        ; m-is = omega (arith, h .clauses-is, ap (countBy (λ x. eqb x 40)) whole, ap (countBy (λ x. eqb x 40)) (t .1), opens (t .0) [])
-        ; k-is = omega (arith, h .top-is, ap top-in past, ap top-in (t .1), tops (t .0) [])
-        ; n-is = omega (arith, h .literals-is, ap (countBy (λ x. eqb x 80)) whole, ap (countBy (λ x. eqb x 80)) (t .1), letters (t .0) [])
+        record {
+          tree = t .0;
+          spells = t .1;
+          none = λ g j. ⊎-elim (λ p. p .1 (t .0) (t .1)) (λ p. none j (omega (arith, only s v (p .0 .0) (longest s) (p .0 .1), p .0 .2)) g (p .1));
+          m-is = omega (arith, h .clauses-is, ap (countBy (λ x. eqb x 40)) whole, ap (countBy (λ x. eqb x 40)) (t .1), opens (t .0) []);
+          k-is = omega (arith, h .top-is, ap top-in past, ap top-in (t .1), tops (t .0) []);
+          n-is = omega (arith, h .literals-is, ap (countBy (λ x. eqb x 80)) whole, ap (countBy (λ x. eqb x 80)) (t .1), letters (t .0) []);
         }
 
   -- the same, at a number that is known to be that place

@@ -19,11 +19,12 @@ module _ (s : List ℕ) (i : ℕ) (st : List ℕ) (within : i < length s) (h : S
   stamps-open : getD s i 0 ≡ 40 → Stamped s (i + 1) st
   stamps-open o =
       let m = rw o at (many-more 40 s i within) in
-      record
-      { size = h .size
-      ; low = λ n. omega (arith, h .low n)
-      ; holds = λ n e. absurd (omega (arith, h .low n))
-      ; stamped = λ n j l x. absurd (held-none s i n j o x) }
+      record {
+        size = h .size;
+        low = λ n. omega (arith, h .low n);
+        holds = λ n e. absurd (omega (arith, h .low n));
+        stamped = λ n j l x. absurd (held-none s i n j o x);
+      }
 
   same-many : (getD s i 0 ≡ 40 → ⊥) → many 40 s (i + 1) ≡ many 40 s i
   same-many o = let m = rw (ne-eqb (getD s i 0) 40 o) at (many-more 40 s i within) in omega arith
@@ -31,14 +32,15 @@ module _ (s : List ℕ) (i : ℕ) (st : List ℕ) (within : i < length s) (h : S
   stamps-other : (getD s i 0 ≡ 40 → ⊥) → ((n : ℕ) → Names s i n → Negated s i → ⊥) → Stamped s (i + 1) st
   stamps-other o none =
       let m = same-many o in
-      record
-      { size = h .size
-      ; low = λ n. omega (arith, h .low n)
-      ; holds = λ n e. let x = h .holds n (omega arith) in (x .0, held-more s i n (x .0) o (x .1))
-      ; stamped = λ n j l x. ⊎-elim
-          (λ (q : j ≡ i). absurd (none n (subst (λ k. Names s k n) q (x .condition)) (subst (Negated s) q (x .negated))))
-          (λ (q : j ≡ i → ⊥). omega (arith, h .stamped n j l (held-less s i n j (omega (arith, x .before, q)) x)))
-          (cases-eq j i) }
+      record {
+        size = h .size;
+        low = λ n. omega (arith, h .low n);
+        holds = λ n e. let x = h .holds n (omega arith) in (x .0, held-more s i n (x .0) o (x .1));
+        stamped = λ n j l x. ⊎-elim
+            (λ (q : j ≡ i). absurd (none n (subst (λ k. Names s k n) q (x .condition)) (subst (Negated s) q (x .negated))))
+            (λ (q : j ≡ i → ⊥). omega (arith, h .stamped n j l (held-less s i n j (omega (arith, x .before, q)) x)))
+            (cases-eq j i);
+      }
 
   -- the condition n of a body stands here
   module _ (n : ℕ) (c : Names s i n) (low : n ≤ 1000) (neg : Negated s i) where
@@ -54,20 +56,21 @@ module _ (s : List ℕ) (i : ℕ) (st : List ℕ) (within : i < length s) (h : S
     stamps-named : Stamped s (i + 1) (set st n (many 40 s i + 1))
     stamps-named =
         let m = same-many not-open in
-        record
-        { size = length-set st n (many 40 s i + 1) ∙ h .size
-        ; low = λ k. ⊎-elim (λ (q : k ≡ n). omega (arith, ap (λ x. getD (set st n (many 40 s i + 1)) x 0) q, now-stamped)) (λ (q : k ≡ n → ⊥). omega (arith, as-before k q, h .low k)) (cases-eq k n)
-        ; holds = λ k e. ⊎-elim
-            (λ (q : k ≡ n). (i, held-here s i k (subst (Names s i) (sym q) c) neg))
-            (λ (q : k ≡ n → ⊥). let x = h .holds k (omega (arith, as-before k q)) in (x .0, held-more s i k (x .0) not-open (x .1)))
-            (cases-eq k n)
-        ; stamped = λ k j l x. ⊎-elim
-            (λ (q : k ≡ n). omega (arith, ap (λ y. getD (set st n (many 40 s i + 1)) y 0) q, now-stamped))
-            (λ (q : k ≡ n → ⊥). ⊎-elim
+        record {
+          size = length-set st n (many 40 s i + 1) ∙ h .size;
+          low = λ k. ⊎-elim (λ (q : k ≡ n). omega (arith, ap (λ x. getD (set st n (many 40 s i + 1)) x 0) q, now-stamped)) (λ (q : k ≡ n → ⊥). omega (arith, as-before k q, h .low k)) (cases-eq k n);
+          holds = λ k e. ⊎-elim
+              (λ (q : k ≡ n). (i, held-here s i k (subst (Names s i) (sym q) c) neg))
+              (λ (q : k ≡ n → ⊥). let x = h .holds k (omega (arith, as-before k q)) in (x .0, held-more s i k (x .0) not-open (x .1)))
+              (cases-eq k n);
+          stamped = λ k j l x. ⊎-elim
+              (λ (q : k ≡ n). omega (arith, ap (λ y. getD (set st n (many 40 s i + 1)) y 0) q, now-stamped))
+              (λ (q : k ≡ n → ⊥). ⊎-elim
               (λ (p : j ≡ i). absurd (q (x .condition .is ∙ (ap (λ y. run-value 0 (drop (y + 1) s)) p ∙ sym (c .is)))))
               (λ (p : j ≡ i → ⊥). omega (arith, as-before k q, h .stamped k j l (held-less s i k j (omega (arith, x .before, p)) x)))
               (cases-eq j i))
-            (cases-eq k n) }
+              (cases-eq k n);
+        }
 
   -- no condition of a body stands here
   pub stamps-same : ((n : ℕ) → Names s i n → Negated s i → ⊥) → Stamped s (i + 1) st
@@ -87,8 +90,9 @@ zeros (suc k) zero = refl
 zeros (suc k) (suc n) = zeros k n
 
 pub stamps-start : (s : List ℕ) → Stamped s 0 (replicate 1001 0)
-stamps-start s = record
-  { size = refl
-  ; low = λ n. omega (arith, zeros 1001 n)
-  ; holds = λ n e. absurd (omega (arith, zeros 1001 n))
-  ; stamped = λ n j l x. absurd (omega (arith, x .before)) }
+stamps-start s = record {
+  size = refl;
+  low = λ n. omega (arith, zeros 1001 n);
+  holds = λ n e. absurd (omega (arith, zeros 1001 n));
+  stamped = λ n j l x. absurd (omega (arith, x .before));
+}

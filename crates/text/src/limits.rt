@@ -168,8 +168,16 @@ impl Reader<'_> {
         ensures { λ r. ⌜ Counted (now (now (self .entry) .bytes)) (i + 1) r ⌝ }
     {
         match self.bytes[i] as char {
-            '(' => Counts { clauses: c.clauses + 1, conditions: c.conditions, literals: c.literals },
-            'P' => Counts { clauses: c.clauses, conditions: self.raised(c.conditions, i), literals: c.literals + 1 },
+            '(' => Counts {
+                clauses: c.clauses + 1,
+                conditions: c.conditions,
+                literals: c.literals,
+            },
+            'P' => Counts {
+                clauses: c.clauses,
+                conditions: self.raised(c.conditions, i),
+                literals: c.literals + 1,
+            },
             _ => c,
         }
     }
@@ -179,7 +187,11 @@ impl Reader<'_> {
         requires { ⌜ end ≤ length (now (now self .bytes)) ⌝ ∗ ⌜ end ≤ 60000 ⌝ }
         ensures { λ r. ⌜ Limits (now (now (self .entry) .bytes)) end r ⌝ }
     {
-        let mut counts = Counts { clauses: 0, conditions: 0, literals: 0 };
+        let mut counts = Counts {
+            clauses: 0,
+            conditions: 0,
+            literals: 0,
+        };
         let mut stamps = [0u16; 1001];
         for i in 0..end {
             match self.fault_at(i, counts, &stamps) {

@@ -37,22 +37,25 @@ loop-p-again c =
     let s = c .args .s .now in
     let p = c .loop-p .p in
     let k = c .loop-p .k in
-    elim (c .match-s-p .came)
-    [ in-P·then-neg·else-k-eq1 w ↦
-        let e = ap (λ n. body-in n (drop p s)) (w .if-neg .taken) ∙ (body-negated s p (c .loop-p-test .taken) (w .in-P .is)) in
-        let m : c .match-s-p .k ≡ k - 1 = omega (arith, w .k-is) in
-        ( ap (λ n. at-place (body-in n (drop (p + 1) s)) (c .match-s-p .k)) (w .neg-is)
-          ∙ (ap (at-place (body-in false (drop (p + 1) s))) m
-          ∙ (sym (ap (λ x. at-place x k) e ∙ place-past (lead-value (drop (p + 1) s)) (body-in false (drop (p + 1) s)) k (c .loop-p .inv .1) (w .if-k-eq1 .left)) ∙ c .loop-p .inv .0))
-        , omega (arith, w .k-is, w .if-k-eq1 .left))
-    | in-P·else-neg w ↦
-        let e = ap (λ n. body-in n (drop p s)) (w .if-neg .left) ∙ (body-letter s p (c .loop-p-test .taken) (w .in-P .is)) in
-        ( ap (λ n. at-place (body-in n (drop (p + 1) s)) (c .match-s-p .k)) (w .neg-is)
-          ∙ (ap (at-place (body-in false (drop (p + 1) s))) (w .k-is) ∙ (sym (ap (λ x. at-place x k) e) ∙ c .loop-p .inv .0))
-        , omega (arith, w .k-is))
-    | in-rest w ↦
-        let e = body-other s p (c .loop-p-test .taken) (c .loop-p .neg) (λ e. omega arith) (λ e. omega arith) in
-        ( ap (λ n. at-place (body-in n (drop (p + 1) s)) (c .match-s-p .k)) (w .neg-is)
-          ∙ (ap (at-place (body-in _ (drop (p + 1) s))) (w .k-is) ∙ (sym (ap (λ x. at-place x k) e) ∙ c .loop-p .inv .0))
-        , omega (arith, w .k-is))
+    elim (c .match-s-p .came) [
+      | in-P·then-neg·else-k-eq1 w ↦
+          let e = ap (λ n. body-in n (drop p s)) (w .if-neg .taken) ∙ (body-negated s p (c .loop-p-test .taken) (w .in-P .is)) in
+          let m : c .match-s-p .k ≡ k - 1 = omega (arith, w .k-is) in (
+            ap (λ n. at-place (body-in n (drop (p + 1) s)) (c .match-s-p .k)) (w .neg-is)
+                ∙ (ap (at-place (body-in false (drop (p + 1) s))) m
+                ∙ (sym (ap (λ x. at-place x k) e ∙ place-past (lead-value (drop (p + 1) s)) (body-in false (drop (p + 1) s)) k (c .loop-p .inv .1) (w .if-k-eq1 .left)) ∙ c .loop-p .inv .0)),
+            omega (arith, w .k-is, w .if-k-eq1 .left),
+          )
+      | in-P·else-neg w ↦
+          let e = ap (λ n. body-in n (drop p s)) (w .if-neg .left) ∙ (body-letter s p (c .loop-p-test .taken) (w .in-P .is)) in (
+            ap (λ n. at-place (body-in n (drop (p + 1) s)) (c .match-s-p .k)) (w .neg-is)
+                ∙ (ap (at-place (body-in false (drop (p + 1) s))) (w .k-is) ∙ (sym (ap (λ x. at-place x k) e) ∙ c .loop-p .inv .0)),
+            omega (arith, w .k-is),
+          )
+      | in-rest w ↦
+          let e = body-other s p (c .loop-p-test .taken) (c .loop-p .neg) (λ e. omega arith) (λ e. omega arith) in (
+            ap (λ n. at-place (body-in n (drop (p + 1) s)) (c .match-s-p .k)) (w .neg-is)
+                ∙ (ap (at-place (body-in _ (drop (p + 1) s))) (w .k-is) ∙ (sym (ap (λ x. at-place x k) e) ∙ c .loop-p .inv .0)),
+            omega (arith, w .k-is),
+          )
     ]

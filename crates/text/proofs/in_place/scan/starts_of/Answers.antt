@@ -19,14 +19,16 @@ loop-p-again c =
     let s = c .args .s .now in
     let p = c .loop-p .p in
     let xs = vec-items (c .loop-p .starts) in
-    elim (c .if-s-p-eq40 .came)
-    [ then-s-p-eq40 w ↦
-        ( kept-more s p xs (vec-items (c .if-s-p-eq40 .starts)) (c .loop-p-test .taken) (w .if-s-p-eq40 .taken) (c .loop-p .inv .0) (ap vec-items (w .starts-is) ∙ w .push-reserved .ensures .items)
-        , omega (arith, ap vec-cap (w .starts-is), w .push-reserved .ensures .capacity, c .loop-p .inv .1) )
-    | else-s-p-eq40 w ↦
-        ( ap (λ v. vec-items v ++ starts-in (p + 1) (drop (p + 1) s)) (w .starts-is)
-          ∙ (sym (ap (λ zs. xs ++ zs) (starts-other s p (c .loop-p-test .taken) (w .if-s-p-eq40 .left))) ∙ c .loop-p .inv .0)
-        , omega (arith, ap vec-cap (w .starts-is), c .loop-p .inv .1) )
+    elim (c .if-s-p-eq40 .came) [
+      | then-s-p-eq40 w ↦ (
+        kept-more s p xs (vec-items (c .if-s-p-eq40 .starts)) (c .loop-p-test .taken) (w .if-s-p-eq40 .taken) (c .loop-p .inv .0) (ap vec-items (w .starts-is) ∙ w .push-reserved .ensures .items),
+        omega (arith, ap vec-cap (w .starts-is), w .push-reserved .ensures .capacity, c .loop-p .inv .1),
+      )
+      | else-s-p-eq40 w ↦ (
+        ap (λ v. vec-items v ++ starts-in (p + 1) (drop (p + 1) s)) (w .starts-is)
+            ∙ (sym (ap (λ zs. xs ++ zs) (starts-other s p (c .loop-p-test .taken) (w .if-s-p-eq40 .left))) ∙ c .loop-p .inv .0),
+        omega (arith, ap vec-cap (w .starts-is), c .loop-p .inv .1),
+      )
     ]
 
 pub returns : need.returns
