@@ -2,22 +2,20 @@
 use mathlib.Core.Path.{_≡_, refl, sym, _∙_, ap}
 use mathlib.Core.Logic.{_⊎_, inl, inr, ⊎-elim}
 use mathlib.Core.Bool.{Bool, true, false, cond, not, _&&_, _||_}
-use mathlib.Core.List.{List, [], _∷_}
+use mathlib.Core.List.{List}
 use Prim.Native.Nat.{ℕ, zero, suc, _+_, _-_, _<_, _≤_}
 use native.Mathlib.Omega.{arith}
 use lib.Chars.{codes}
 use lib.Dec.{eqb, leb}
 use lib.ListN.{length, take, drop, getD, length-take}
 use borrow.Author.Tests.{eqb-true, eq-eqb, leb-true}
-use Rattle.std.specs.shelf.Lists.{countBy}
 use Rattle.std.proofs.shelf.Lists.{getD-take}
 use Rattle.std.proofs.shelf.Sums.{sumBy-take-le, countBy-le-length, getD-le-sumBy}
 use Rattle.std.proofs.shelf.Tests.{cases-eq, cases-lt, or-cases, and-parts, not-true, both-ways}
 use Rattle.text.specs.declared.verdict.Fault.the-variants.{TooGreat, Repeated}
-use Rattle.text.specs.Grammar.{first-digit, end, then, number, one, fact, rule, last, Text, clauses}
-use Rattle.text.specs.Judging.{run-value, Names, Negated, Held, Too-great, Repeats, Too-many, Limit, many}
+use Rattle.text.specs.Grammar.{first-digit, end, then, number, one, fact, rule, last, Text}
+use Rattle.text.specs.Judging.{run-value, Names, Too-great, Too-many, Limit, many}
 use Rattle.text.specs.Limits.{Clear, First}
-use Rattle.text.specs.Accepted.{Keeps-limits}
 use Rattle.text.specs.Examples.{Worked-texts}
 use Rattle.text.proofs.Passes.{outside-at, refused-at}
 use Rattle.text.proofs.Accepted.{keeps-good}
@@ -54,21 +52,21 @@ module _ (s : List ℕ) where
     named-low j n q c =
         ⊎-elim (λ a. absurd (both-ways (eqb (getD s j 0) 80) (not-true _ a) (eq-eqb (getD s j 0) 80 (c .letter))))
         (λ a. ⊎-elim (λ b. absurd (both-ways (first-digit (getD s (j + 1) 0)) (not-true _ b) (c .leads)))
-          (λ b.
-            let d = and-parts (leb (run-value 0 (drop (j + 1) s)) 1000) (not (eqb (getD s (j - 1) 0) 126) || eqb (many 80 s j) 0) b in
-            (omega (arith, leb-true (run-value 0 (drop (j + 1) s)) 1000 (d .0), c .is), ⊎-elim (λ x. inl (not-true _ x)) (λ x. inr (eqb-true (many 80 s j) 0 x)) (or-cases (not (eqb (getD s (j - 1) 0) 126)) (eqb (many 80 s j) 0) (d .1))))
-          (or-cases (not (first-digit (getD s (j + 1) 0))) _ a))
+        (λ b.
+        let d = and-parts (leb (run-value 0 (drop (j + 1) s)) 1000) (not (eqb (getD s (j - 1) 0) 126) || eqb (many 80 s j) 0) b in
+        (omega (arith, leb-true (run-value 0 (drop (j + 1) s)) 1000 (d .0), c .is), ⊎-elim (λ x. inl (not-true _ x)) (λ x. inr (eqb-true (many 80 s j) 0 x)) (or-cases (not (eqb (getD s (j - 1) 0) 126)) (eqb (many 80 s j) 0) (d .1))))
+        (or-cases (not (first-digit (getD s (j + 1) 0))) _ a))
         (or-cases (not (eqb (getD s j 0) 80)) _ q)
 
     silent : (j : ℕ) → j ≤ length s → quiet s j ≡ true → (g : ℕ) → Limit s g j → ⊥
     silent j l q g = ⊎-elim
         (λ p. omega (arith, named-low j (p .1 .0) q (p .1 .1) .0, p .1 .2))
         (⊎-elim
-          (λ p. ⊎-elim
-            (λ x. both-ways (eqb (getD s (j - 1) 0) 126) x (eq-eqb (getD s (j - 1) 0) 126 (p .1 .2 .1)))
-            (λ x. omega (arith, letter-before j (p .1 .3 .0) (p .1 .3 .1 .before) l (p .1 .3 .1 .condition .letter), x))
-            (named-low j (p .1 .0) q (p .1 .1) .1))
-          (λ p. not-too-many j (p .1)))
+        (λ p. ⊎-elim
+        (λ x. both-ways (eqb (getD s (j - 1) 0) 126) x (eq-eqb (getD s (j - 1) 0) 126 (p .1 .2 .1)))
+        (λ x. omega (arith, letter-before j (p .1 .3 .0) (p .1 .3 .1 .before) l (p .1 .3 .1 .condition .letter), x))
+        (named-low j (p .1 .0) q (p .1 .1) .1))
+        (λ p. not-too-many j (p .1)))
 
     clear : (v : ℕ) → v ≤ length s → quiet-below s v ≡ true → Clear s v
     clear zero l q j h = absurd (omega arith)
@@ -94,42 +92,59 @@ twice : First (codes "(~P2|~P2)") 9 (Repeated 6)
 twice =
     let s = codes "(~P2|~P2)" in
     let c : Names s 6 2 = record { letter = refl; leads = refl; is = refl } in
-    record
-    { at = 6
-    ; within = omega arith
-    ; is = record
-      { place = refl
-      ; limit = inr (inl (refl, (2, c, (omega arith, refl), (2, record
-          { before = omega arith
-          ; condition = record { letter = refl; leads = refl; is = refl }
-          ; negated = (omega arith, refl)
-          ; same = λ k a b e. ⊎-elim
-              (λ (q : k ≡ 3). omega (arith, ap (λ i. getD s i 0) q))
-              (λ (q : k ≡ 3 → ⊥). ⊎-elim
-                (λ (p : k ≡ 4). omega (arith, ap (λ i. getD s i 0) p))
-                (λ (p : k ≡ 4 → ⊥). let r : k ≡ 5 = omega (arith, q, p) in omega (arith, ap (λ i. getD s i 0) r))
-                (cases-eq k 4))
-              (cases-eq k 3) }))))
-      ; least = λ g. four s 6 g (not-great s (omega arith) 6 2 c (omega arith)) }
-    ; clear = clear s (omega arith) 6 (omega arith) refl }
+    record {
+      at = 6;
+      within = omega arith;
+      is = record {
+        place = refl;
+        limit = inr (inl (
+          refl,
+          (
+            2,
+            c,
+            (omega arith, refl),
+            (
+              2,
+              record {
+                before = omega arith;
+                condition = record { letter = refl; leads = refl; is = refl };
+                negated = (omega arith, refl);
+                same = λ k a b e. ⊎-elim
+                    (λ (q : k ≡ 3). omega (arith, ap (λ i. getD s i 0) q))
+                    (λ (q : k ≡ 3 → ⊥). ⊎-elim
+                    (λ (p : k ≡ 4). omega (arith, ap (λ i. getD s i 0) p))
+                    (λ (p : k ≡ 4 → ⊥). let r : k ≡ 5 = omega (arith, q, p) in omega (arith, ap (λ i. getD s i 0) r))
+                    (cases-eq k 4))
+                    (cases-eq k 3);
+              },
+            ),
+          ),
+        ));
+        least = λ g. four s 6 g (not-great s (omega arith) 6 2 c (omega arith));
+      };
+      clear = clear s (omega arith) 6 (omega arith) refl;
+    }
 
 above : First (codes "(P1001)") 7 (TooGreat 1)
 above =
     let s = codes "(P1001)" in
-    record
-    { at = 1
-    ; within = omega arith
-    ; is = record { place = refl; limit = inl (refl, (1001, record { letter = refl; leads = refl; is = refl }, omega arith)); least = three s 1 }
-    ; clear = clear s (omega arith) 1 (omega arith) refl }
+    record {
+      at = 1;
+      within = omega arith;
+      is = record { place = refl; limit = inl (refl, (1001, record { letter = refl; leads = refl; is = refl }, omega arith)); least = three s 1 };
+      clear = clear s (omega arith) 1 (omega arith) refl;
+    }
 
 pub worked-texts : Worked-texts
 unfolding thousand own
-worked-texts = record
-  { empty = (omega arith, outside-at (codes "") 0 refl refl (clear (codes "") (omega arith) 0 (omega arith) refl))
-  ; zero = (omega arith, outside-at (codes "(P0)") 2 refl refl (clear (codes "(P0)") (omega arith) 2 (omega arith) refl))
-  ; too-great = refused-at (codes "(P1001)") 7 refl (omega arith) (TooGreat 1) above
-  ; greatest = (omega arith, keeps-good thousand (codes "(P1000)") refl (record { low = omega arith; different = (tt, tt); few-clauses = omega arith; few-literals = omega arith }))
-  ; repeated = refused-at (codes "(~P2|~P2)") 9 refl (omega arith) (Repeated 6) twice
-  ; order = (omega arith, outside-at (codes "(P1|~P2)") 3 refl refl (clear (codes "(P1|~P2)") (omega arith) 3 (omega arith) refl))
-  ; own-outcome = (omega arith, keeps-good own (codes "(~P1|P1)") refl (record { low = omega arith; different = ((refl, tt), tt); few-clauses = omega arith; few-literals = omega arith }))
-  }
+worked-texts = record {
+  empty = (omega arith, outside-at (codes "") 0 refl refl (clear (codes "") (omega arith) 0 (omega arith) refl));
+  zero = (omega arith, outside-at (codes "(P0)") 2 refl refl (clear (codes "(P0)") (omega arith) 2 (omega arith) refl));
+  too-great = refused-at (codes "(P1001)") 7 refl (omega arith) (TooGreat 1) above;
+  greatest = (omega arith, keeps-good thousand (codes "(P1000)") refl (record { low = omega arith; different = (tt, tt); few-clauses = omega arith; few-literals = omega arith }));
+  repeated = refused-at (codes "(~P2|~P2)") 9 refl (omega arith) (Repeated 6) twice;
+  order = (omega arith, outside-at (codes "(P1|~P2)") 3 refl refl (clear (codes "(P1|~P2)") (omega arith) 3 (omega arith) refl));
+  own-outcome = (omega arith, keeps-good own (codes "(~P1|P1)") refl (record { low = omega arith; different = ((refl, tt), tt); few-clauses = omega arith; few-literals = omega arith }));
+  unfinished = (omega arith, outside-at (codes "(P1)&") 5 refl refl (clear (codes "(P1)&") (omega arith) 5 (omega arith) refl));
+  leading-zero = (omega arith, outside-at (codes "(P01001)") 2 refl refl (clear (codes "(P01001)") (omega arith) 2 (omega arith) refl));
+}
