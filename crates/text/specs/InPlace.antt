@@ -1,5 +1,4 @@
 -- The sheet of a text in place, and that a source may mean it.
-use Prim.Native.Nat.{ℕ}
 use denote.Ref.{now}
 use Rattle.horn.specs.Sheets.{Sheet}
 use Rattle.horn.specs.Sources.{Lawful-source}
