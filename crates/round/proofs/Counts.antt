@@ -1,8 +1,8 @@
 -- The counters, step by step.
-use Prim.Native.Nat.{ℕ, zero, suc, _+_, _-_, _≤_, _<_}
-use mathlib.Core.Path.{_≡_, refl, sym, ap, subst, _∙_}
+use Prim.Native.Nat.{ℕ, _+_, _-_, _≤_, _<_}
+use mathlib.Core.Path.{_≡_, refl, sym, ap, _∙_}
 use mathlib.Core.Logic.{_⊎_, inl, inr}
-use mathlib.Core.Bool.{Bool, true, false, cond}
+use mathlib.Core.Bool.{true, false, cond}
 use mathlib.Core.List.{List}
 use native.Mathlib.Omega.{arith}
 use lib.Dec.{eqb}
@@ -15,7 +15,7 @@ use Rattle.round.proofs.Sets.{at-same, at-other, split}
 use Rattle.round.proofs.Zeros.{zeros-pos}
 use Rattle.round.proofs.Levels.{within}
 use Rattle.round.proofs.Queues.{Extends, Same, entered-extends, entered-same, entered-ranked, queued-entered, highest}
-use Rattle.round.proofs.Totals.{total-same, total-less, total-zero, total-none, total-ones}
+use Rattle.round.proofs.Totals.{total-same, total-less, total-zero}
 
 -- f with 0 at x
 without : (ℕ → ℕ) → ℕ → ℕ → ℕ

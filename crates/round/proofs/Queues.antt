@@ -1,14 +1,14 @@
 -- The queue and the ranks after `enter`.
-use Prim.Native.Nat.{ℕ, zero, suc, _+_, _-_, _≤_, _<_}
-use mathlib.Core.Path.{_≡_, refl, sym, ap, subst, _∙_}
-use mathlib.Core.Logic.{_⊎_, inl, inr, ⊎-elim}
+use Prim.Native.Nat.{ℕ, _+_, _≤_, _<_}
+use mathlib.Core.Path.{_≡_, refl, sym, ap, _∙_}
+use mathlib.Core.Logic.{⊎-elim}
 use mathlib.Core.List.{List}
 use native.Mathlib.Omega.{arith}
 use lib.ListN.{length, set}
 use Rattle.std.proofs.shelf.Lists.{length-set}
 use Rattle.std.proofs.shelf.Tests.{cases-lt, cases-eq}
-use Rattle.round.specs.Rows.{at, Rows, Body, Filled}
-use Rattle.round.specs.Steps.{Entered, Queued, zeros}
+use Rattle.round.specs.Rows.{at, Rows, Body}
+use Rattle.round.specs.Steps.{Entered, Queued}
 use Rattle.round.proofs.Sets.{at-same, at-other, split}
 use Rattle.round.proofs.Zeros.{zeros-pos, zeros-set}
 

@@ -1,18 +1,18 @@
 -- The steps from place to place, from condition to condition and from level to level.
 use Prim.Native.Nat.{ℕ, _+_, _-_, _≤_, _<_}
 use mathlib.Core.Path.{_≡_, refl, sym, ap, _∙_}
-use mathlib.Core.Logic.{_⊎_, inl, inr}
+use mathlib.Core.Logic.{_⊎_}
 use mathlib.Core.List.{List}
 use native.Mathlib.Omega.{arith}
 use lib.ListN.{length, set}
 use Rattle.std.proofs.shelf.Tests.{cases-lt, cases-eq}
-use Rattle.round.specs.Rows.{at, Rows, Body, Filled, Lawful-rows}
+use Rattle.round.specs.Rows.{at, Rows, Lawful-rows}
 use Rattle.round.specs.Occurrences.{Chained}
-use Rattle.round.specs.Steps.{zeros, total, Queued, Counted, Close}
+use Rattle.round.specs.Steps.{Queued, Counted, Close}
 use Rattle.round.proofs.Sets.{split, at-same, at-other}
 use Rattle.round.proofs.Zeros.{zeros-le}
 use Rattle.round.proofs.Totals.{total-same, total-ones, total-none}
-use Rattle.round.proofs.Levels.{Rank, within, condition, are-ranks}
+use Rattle.round.proofs.Levels.{Rank, within, are-ranks}
 
 -- the same cursor, written otherwise
 pub counted-at : (t : Rows) (m : ℕ) (rank queue count : List ℕ) (done next tail level p cursor p′ cursor′ : ℕ)

@@ -1,9 +1,8 @@
 use native.Mathlib.Omega.{arith}
-use Prim.Native.Nat.{ℕ, _+_, _≤_, _<_}
-use mathlib.Core.Path.{_≡_, refl}
+use Prim.Native.Nat.{_+_}
+use mathlib.Core.Path.{_≡_}
 use lib.ListN.{length}
 use Rattle.round.specs.Rows.{at, Rows, rows-of}
-use Rattle.round.specs.Steps.{Queued}
 use Rattle.round.proofs.Turns.{finished, at-head}
 use Rattle.round.proofs.Meaning.{is-rank}
 use mathlib.Core.Logic.{_⊎_, inl, inr}

@@ -1,6 +1,5 @@
 use native.Mathlib.Omega.{arith}
-use Prim.Native.Nat.{ℕ, _+_, _-_, _≤_, _<_}
-use mathlib.Core.Path.{_≡_, refl}
+use Prim.Native.Nat.{ℕ, _<_}
 use mathlib.Core.Logic.{inl}
 use lib.ListN.{length}
 use Rattle.round.specs.Rows.{at, Rows, rows-of}
