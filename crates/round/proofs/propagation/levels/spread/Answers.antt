@@ -12,10 +12,11 @@ use Rattle.round.proofs.propagation.levels.spread.Needs as need
 pub discharge-back-requires : need.discharge-back-requires
 discharge-back-requires c κs =
     let came : ((c .loop-head .head ≡ c .loop-head .end) × (c .if-head-end .end ≡ c .loop-head .back) × (c .if-head-end .level ≡ c .loop-head .level + 1))
-        ⊎ ((c .loop-head .head ≡ c .loop-head .end → ⊥) × (c .if-head-end .end ≡ c .loop-head .end) × (c .if-head-end .level ≡ c .loop-head .level)) =
-        elim (c .if-head-end .came) [
-          then-head-end w ↦ inl (w .if-head-end .taken, w .end-is, w .level-is)
-        | else-head-end w ↦ inr (w .if-head-end .left, w .end-is, w .level-is) ] in
+    ⊎ ((c .loop-head .head ≡ c .loop-head .end → ⊥) × (c .if-head-end .end ≡ c .loop-head .end) × (c .if-head-end .level ≡ c .loop-head .level)) =
+    elim (c .if-head-end .came) [
+      | then-head-end w ↦ inl (w .if-head-end .taken, w .end-is, w .level-is)
+      | else-head-end w ↦ inr (w .if-head-end .left, w .end-is, w .level-is)
+    ] in
     let v = at-head (c .loop-head-test .taken) (c .loop-head .inv .few) came (c .loop-head .inv .queued) (c .loop-head .inv .counted) in
     let same : length (c .args .rank .now) ≡ length (c .loop-head .rank) = omega arith in
     record {

@@ -17,13 +17,13 @@ returns-then-size-eq0 c =
     let o : ℕ = at (c .args .clauses .outcomes .now) (c .args .c) in
     let known : o < length (c .args .rank .now) = c .pre .lawful .outcomes (c .args .c) (c .pre .clause) in
     let queued : Queued (rows-of (c .args .clauses)) (c .enter .last .rank) (c .enter .last .queue) 0 0 (c .enter .result) 0 =
-        queued-entered (c .pre .queued) (c .pre .space) (c .args .c) (c .pre .clause) known (λ j b. absurd (omega (arith, b, c .if-size-eq0 .taken))) (c .enter .ensures) in
+    queued-entered (c .pre .queued) (c .pre .space) (c .args .c) (c .pre .clause) known (λ j b. absurd (omega (arith, b, c .if-size-eq0 .taken))) (c .enter .ensures) in
     record {
       queued = queued;
       counted = counted-more (c .pre .lawful) (c .args .c) (c .pre .clause) (c .pre .counters)
           (λ e pos.
-              let r : 0 < at (c .enter .last .rank) o = entered-ranked (c .enter .ensures) known (omega arith) pos in
-              (r, inl (omega (arith, highest queued o r))))
+          let r : 0 < at (c .enter .last .rank) o = entered-ranked (c .enter .ensures) known (omega arith) pos in
+          (r, inl (omega (arith, highest queued o r))))
           queued
           (counted-entered (c .pre .queued) (room-or-same (c .pre .space) known (c .pre .queued .room) (c .enter .ensures)) (omega arith) (c .enter .ensures) (c .pre .counted));
     }

@@ -11,7 +11,7 @@ sub-left c = count-pos (c .args .place) (c .pre .lawful .rows) (c .pre .owned) (
 pub returns-then-left-eq0 : need.returns-then-left-eq0
 returns-then-left-eq0 c =
     let pos : 0 < at (c .args .count .now) (at (c .args .owner .now) (c .args .place)) =
-        count-pos (c .args .place) (c .pre .lawful .rows) (c .pre .owned) (c .pre .queued) (c .pre .here) (c .pre .place) (c .pre .counted) in
+    count-pos (c .args .place) (c .pre .lawful .rows) (c .pre .owned) (c .pre .queued) (c .pre .here) (c .pre .place) (c .pre .counted) in
     let one : at (c .args .count .now) (at (c .args .owner .now) (c .args .place)) ≡ 1 = omega (arith, c .if-left-eq0 .taken) in
     let known = c .pre .lawful .outcomes (at (c .args .owner .now) (c .args .place)) (c .pre .owned .within (c .args .place) (c .pre .place) .0) in
     record {
