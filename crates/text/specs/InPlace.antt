@@ -11,5 +11,6 @@ use Rattle.text.specs.Reading.{sheet-in}
 abbrev pub text-sheet : TextSheet → Sheet
 text-sheet t = sheet-in (conditions-in (t .verdict)) (now (t .bytes))
 
+-- it has at most 1,000 conditions, at most 65,535 clauses, and only lawful ones
 pub text-lawful : (t : TextSheet) → Lawful-source (text-sheet t)
-text-lawful t = record { few-conditions = t .low; few-clauses = t .few; lawful = lawful-tested (text-sheet t) .0 (t .lawful) }
+text-lawful t = record { few-conditions = t .low; few-clauses = t .few; lawful = lawful-tested (text-sheet t) .0 (t .proper) }
