@@ -18,43 +18,20 @@ pub enum State {
 fn step(state: State, b: u8) -> Option<State>
     ensures { λ r. ⌜ r ≡ next state b ⌝ }
 {
-    match state {
-        State::Start => match b as char {
-            '(' => Some(State::Literal),
-            _ => None,
-        },
-        State::Literal => match b as char {
-            '~' => Some(State::Negated),
-            'P' => Some(State::PosFirst),
-            _ => None,
-        },
-        State::Negated => match b as char {
-            'P' => Some(State::NegFirst),
-            _ => None,
-        },
-        State::NegFirst => match b as char {
-            '1'..='9' => Some(State::NegMore),
-            _ => None,
-        },
-        State::NegMore => match b as char {
-            '0'..='9' => Some(State::NegMore),
-            '|' => Some(State::Literal),
-            ')' => Some(State::Done),
-            _ => None,
-        },
-        State::PosFirst => match b as char {
-            '1'..='9' => Some(State::PosMore),
-            _ => None,
-        },
-        State::PosMore => match b as char {
-            '0'..='9' => Some(State::PosMore),
-            ')' => Some(State::Done),
-            _ => None,
-        },
-        State::Done => match b as char {
-            '&' => Some(State::Start),
-            _ => None,
-        },
+    match (state, b as char) {
+        (State::Start, '(') => Some(State::Literal),
+        (State::Literal, '~') => Some(State::Negated),
+        (State::Literal, 'P') => Some(State::PosFirst),
+        (State::Negated, 'P') => Some(State::NegFirst),
+        (State::NegFirst, '1'..='9') => Some(State::NegMore),
+        (State::NegMore, '0'..='9') => Some(State::NegMore),
+        (State::NegMore, '|') => Some(State::Literal),
+        (State::NegMore, ')') => Some(State::Done),
+        (State::PosFirst, '1'..='9') => Some(State::PosMore),
+        (State::PosMore, '0'..='9') => Some(State::PosMore),
+        (State::PosMore, ')') => Some(State::Done),
+        (State::Done, '&') => Some(State::Start),
+        _ => None,
     }
 }
 
