@@ -1,0 +1,2 @@
+// The console: all input bytes to all output bytes.
+pub mod records;
