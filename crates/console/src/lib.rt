@@ -1,2 +1,3 @@
 // The console: all input bytes to all output bytes.
-pub mod records;
+mod lines;
+mod records;
