@@ -1,2 +1,3 @@
 pub mod Parsing
 pub mod Writing
+pub mod Once

@@ -1,4 +1,5 @@
 pub mod Records
 pub mod Lines
 pub mod Taking
-pub mod Places
+pub mod Origins
+pub mod Session

@@ -4,6 +4,8 @@ use mathlib.Core.List.{List, [], _∷_, _++_}
 use lib.Chars.{codes}
 use Rattle.std.specs.Written.{decimal}
 use Rattle.std.specs.shelf.Lists.{joined}
+use Rattle.std.specs.declared.option.Option.{Option}
+use Rattle.std.specs.declared.option.Option.the-variants.{Some, None}
 
 -- where a refusal comes from
 pub data Layer : Type 0 where
@@ -24,6 +26,11 @@ pub data Reply : Type 0 where
 -- the numbers, each in decimal after a space
 abbrev pub numbers : List ℕ → List ℕ
 numbers ns = joined (λ n. 32 ∷ decimal n) ns
+
+-- a place or ban, if there is one
+abbrev pub optional : Option ℕ → List ℕ
+optional None = []
+optional (Some n) = n ∷ []
 
 -- The line of a reply: the record's mark, the reply, and byte 10.
 abbrev pub line : List ℕ → Reply → List ℕ

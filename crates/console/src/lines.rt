@@ -4,8 +4,8 @@ ghost use mathlib.Core.List.{[], _∷_, _++_};
 ghost use Rattle.std.specs.Of.String.{string-bytes};
 ghost use Rattle.std.specs.Vec.{made};
 ghost use Rattle.std.specs.Written.{decimal};
-ghost use Rattle.console.specs.Lines.{accepted, refused, numbers, line, layer-name};
-ghost use Rattle.console.specs.Places.{origin, place-list};
+ghost use Rattle.console.specs.Lines.{accepted, refused, numbers, optional, line, layer-name};
+ghost use Rattle.console.specs.Origins.{origin};
 use std::alloc::AllocError;
 use std::alloc::Global;
 
@@ -39,7 +39,7 @@ fn push_number(heap: Global, out: &mut String, n: usize) -> Result<(), AllocErro
 
 // Adds a space and a place or ban, if there is one.
 fn push_place(heap: Global, out: &mut String, place: Option<usize>) -> Result<(), AllocError>
-    ensures { λ r. ⌜ made r (λ _. string-bytes (now (out .exit)) ≡ string-bytes (now (out .entry)) ++ numbers (place-list place)) ⌝ }
+    ensures { λ r. ⌜ made r (λ _. string-bytes (now (out .exit)) ≡ string-bytes (now (out .entry)) ++ numbers (optional place)) ⌝ }
 {
     match place {
         Some(p) => push_number(heap, out, p),
@@ -61,7 +61,7 @@ pub(crate) fn accept(heap: Global, out: &mut String, mark: &str, answer: &[u16])
 
 // Adds the line of a refusal: its mark, ` no`, where it comes from, its number, and the place or ban that it names.
 pub(crate) fn refuse(heap: Global, out: &mut String, mark: &str, from: Origin, number: u8, place: Option<usize>) -> Result<(), AllocError>
-    ensures { λ r. ⌜ made r (λ _. string-bytes (now (out .exit)) ≡ string-bytes (now (out .entry)) ++ line (now (mark .entry)) (refused (origin «from») number (place-list place))) ⌝ }
+    ensures { λ r. ⌜ made r (λ _. string-bytes (now (out .exit)) ≡ string-bytes (now (out .entry)) ++ line (now (mark .entry)) (refused (origin «from») number (optional place))) ⌝ }
 {
     out.push_str(mark)?;
     out.push_str(" no ")?;
