@@ -3,3 +3,4 @@ pub mod Lines
 pub mod Taking
 pub mod Origins
 pub mod Session
+pub mod Serving
