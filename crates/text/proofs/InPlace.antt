@@ -5,17 +5,20 @@ use mathlib.Core.List.{List, [], _∷_, _++_}
 use Prim.Native.Nat.{ℕ, _+_, _-_, _<_, _≤_}
 use native.Mathlib.Omega.{arith}
 use lib.ListN.{length, take, drop, getD}
-use Rattle.std.specs.declared.result.Result.the-variants.{Ok, Err}
-use Rattle.std.proofs.shelf.Lists.{take-all, append-nil, append-assoc, getD-past, getD-at, length-append}
+use Rattle.std.specs.declared.result.Result.{Result}
+use Rattle.std.specs.declared.result.Result.the-variants.{Err}
+use Rattle.text.specs.declared.verdict.Counts.{Counts}
+use Rattle.text.specs.declared.verdict.Fault.{Fault}
+use Rattle.std.proofs.shelf.Lists.{take-all, append-nil, append-assoc, getD-past}
 use Rattle.std.proofs.shelf.Tests.{cases-lt}
-use Rattle.text.specs.declared.verdict.Fault.{Fault as Refusal}
-use Rattle.text.specs.declared.verdict.Fault.the-variants.{TooLong, At}
 use Rattle.horn.specs.Sheets.{Sheet, top-of}
 use Rattle.text.specs.Grammar.{Digits, end, then, Number, number, NegLits, one, more, Basic, fact, rule, ban, Text, last, join, digits, numeral, neg-lits, inside, basic, text, Spells, Longest, clauses}
 use Rattle.text.specs.Judging.{Names, Repeats, Limit, Good}
-use Rattle.text.specs.Verdicts.{Judged}
-use Rattle.text.specs.Reading.{clauses-in, sheet-in, Small, Meant}
+use Rattle.text.specs.Verdicts.{fault-number, fault-place, Refused, Judged, conditions-in}
+use Rattle.text.specs.Reading.{clauses-in, starts-in, sheet-in, Small, Meant}
 use Rattle.text.proofs.Meaning.{reads, one-meaning}
+use Rattle.text.proofs.Starts.{same-length}
+use Rattle.text.proofs.Pinned.{good-or-refused}
 
 -- each writes something before what follows it
 abbrev Front : (List ℕ → List ℕ) → Type 0
@@ -48,56 +51,48 @@ front-inside (fact n) s = front-letter n s
 front-inside (rule ns n) s = behind (neg-lits ns) (λ u. 124 ∷ 80 ∷ numeral n u) (front-negs ns) (behind (λ u. 124 ∷ u) (λ u. 80 ∷ numeral n u) (byte 124) (front-letter n)) s
 front-inside (ban ns) s = front-negs ns s
 
--- a text ends with )
-closed : (t : Text) → (p : List ℕ) × (text t [] ≡ p ++ 41 ∷ [])
-closed (last c) = let a = front-inside c (41 ∷ []) in (40 ∷ a .0, ap (λ x. 40 ∷ x) (a .1))
-closed (join c t) =
-    let b = closed t in
-    let a = front-inside c (41 ∷ 38 ∷ text t []) in
-    (40 ∷ (a .0 ++ (41 ∷ 38 ∷ b .0)), ap (λ x. 40 ∷ x) (a .1 ∙ (ap (λ x. a .0 ++ (41 ∷ 38 ∷ x)) (b .1) ∙ sym (append-assoc (a .0) (41 ∷ 38 ∷ b .0) (41 ∷ [])))))
-
 module _ (s : List ℕ) (m k n : ℕ) (g : Good s m k n) where
   whole : Longest s (length s)
-  whole = record
-    { within = omega arith
-    ; viable = (g .tree, [], g .spells ∙ sym (append-nil (take (length s) s) ∙ take-all (length s) s (omega arith)))
-    ; longest = λ w h _. h }
+  whole = record {
+    within = omega arith;
+    viable = (g .tree, [], g .spells ∙ sym (append-nil (take (length s) s) ∙ take-all (length s) s (omega arith)));
+    longest = λ w h _. h;
+  }
+
+  -- no fault of the limits stands in it
+  pub whole-limit : (f i : ℕ) → i < length s → Limit s f i → ⊥
+  whole-limit f i l x = g .none f i (inr ((length s, whole, l), x))
 
   pub small : Small s
   small i p c = ⊎-elim
       (λ h. ⊎-elim
-        (λ l. absurd (g .none 3 i (inr ((length s, whole, l), inl (refl, (p, c, h))))))
-        (λ l. absurd (omega (arith, getD-past s i 0 l, c .letter)))
-        (cases-lt i (length s)))
+      (λ l. absurd (whole-limit 3 i l (inl (refl, (p, c, h)))))
+      (λ l. absurd (omega (arith, getD-past s i 0 l, c .letter)))
+      (cases-lt i (length s)))
       (λ h. h) (cases-lt 1000 p)
 
-  pub repeated-none : (i : ℕ) → Repeats s i → ⊥
-  repeated-none i r = ⊎-elim
-      (λ l. g .none 4 i (inr ((length s, whole, l), inr (inl (refl, r)))))
+  pub repeats-none : (i : ℕ) → Repeats s i → ⊥
+  repeats-none i r = ⊎-elim
+      (λ l. whole-limit 4 i l (inr (inl (refl, r))))
       (λ l. omega (arith, getD-past s i 0 l, r .1 .letter))
       (cases-lt i (length s))
-
-  pub ended : 0 < length s → getD s (length s - 1) 0 ≡ 41
-  ended _ =
-      let b = closed (g .tree) in
-      let e : s ≡ b .0 ++ 41 ∷ [] = sym (g .spells) ∙ b .1 in
-      let l : length s ≡ length (b .0) + 1 = ap length e ∙ length-append (b .0) (41 ∷ []) in
-      ap (λ x. getD x (length s - 1) 0) e ∙ getD-at (b .0) 41 [] 0 (length s - 1) (omega arith)
 
   pub meaning : clauses-in s ≡ clauses (g .tree)
   meaning = ap clauses-in (sym (g .spells)) ∙ (reads (g .tree) [] ∙ append-nil (clauses (g .tree)))
 
-  pub counted : m ≡ length (clauses-in s)
-  counted = g .m-is ∙ sym (ap length meaning)
+  pub counted : m ≡ length (starts-in 0 s)
+  counted = g .m-is ∙ (sym (ap length meaning) ∙ sym (same-length 0 s))
 
   pub meant-good : length s ≤ 60000 → Meant s (sheet-in k s)
-  meant-good short = record
-    { good = λ m′ k′ n′ _ h.
+  meant-good short = record {
+    good = λ m′ k′ n′ _ h.
         let c : clauses-in s ≡ clauses (h .tree) = meaning ∙ one-meaning (g .tree) (h .tree) s (g .spells) (h .spells) in
         let t : k ≡ k′ = g .k-is ∙ (ap top-of (one-meaning (g .tree) (h .tree) s (g .spells) (h .spells)) ∙ sym (h .k-is)) in
-        cc
-    ; refused = λ h. absurd (h m k n short g) }
+        cc;
+    refused = λ h. absurd (h m k n short g);
+  }
 
-pub meant-refused : (s u : List ℕ) (r : Refusal) → Judged s (Err r) → u ≡ [] → Meant s (sheet-in 0 u)
-meant-refused s u TooLong j e = record { good = λ m k n l g. absurd (omega arith); refused = λ _. ap (sheet-in 0) e }
-meant-refused s u (At f) j e = record { good = λ m k n l g. absurd (g .none _ _ (j .1 .is)); refused = λ _. ap (sheet-in 0) e }
+pub meant-refused : (s u : List ℕ) (r : Result Counts Fault) (f : Fault) → r ≡ Err f → Judged s r → u ≡ [] → Meant s (sheet-in (conditions-in r) u)
+meant-refused s u r f is j e =
+    let h : Refused s (fault-number f) (fault-place f) = subst (Judged s) is j in
+    record { good = λ m k n l g. absurd (good-or-refused s m k n _ (fault-place f) l g h); refused = λ _. cc }

@@ -15,7 +15,7 @@ use Rattle.text.specs.Reading.{body-in, outcome-in, clause-in, clauses-in}
 use Rattle.text.proofs.Trees.{apart, first-is-digit, lead-number}
 
 -- a digit is none of the signs
-signs : (b : ℕ) → digit b ≡ true → (eqb b 40 ≡ false) × (eqb b 41 ≡ false) × (eqb b 80 ≡ false) × (eqb b 126 ≡ false)
+pub signs : (b : ℕ) → digit b ≡ true → (eqb b 40 ≡ false) × (eqb b 41 ≡ false) × (eqb b 80 ≡ false) × (eqb b 126 ≡ false)
 signs b d = (apart 40 b refl d, apart 41 b refl d, apart 80 b refl d, apart 126 b refl d)
 
 -- F, a reading that passes over digits
@@ -24,7 +24,7 @@ module _ {Y : Type 0} (F : List ℕ → Y) (passes : (b : ℕ) (s : List ℕ) �
   past-digits end s = refl
   past-digits (then b d ds) s = passes b (digits ds s) d ∙ past-digits ds s
 
-  past-number : (n : Number) (s : List ℕ) → F (numeral n s) ≡ F s
+  pub past-number : (n : Number) (s : List ℕ) → F (numeral n s) ≡ F s
   past-number (number b d ds) s = passes b (digits ds s) (first-is-digit b d) ∙ past-digits ds s
 
 body-passes : (b : ℕ) (s : List ℕ) → digit b ≡ true → body-in false (b ∷ s) ≡ body-in false s

@@ -77,7 +77,7 @@ sound Literal [] h = absurd (false≢true h)
 sound Literal (b ∷ bs) h =
     ⊎-elim (λ p. subst Lits (is b 126 bs (p .0)) (negative bs (sound Negated bs (p .1))))
     (λ p. ⊎-elim (λ q. subst Lits (is b 80 bs (q .0)) (positive bs (sound PosFirst bs (q .1)))) (λ q. absurd (false≢true (q .1)))
-      (test (eqb b 80) PosFirst None (λ r. accepts r bs) (p .1)))
+    (test (eqb b 80) PosFirst None (λ r. accepts r bs) (p .1)))
     (test (eqb b 126) Negated (cond (eqb b 80) (Some PosFirst) None) (λ r. accepts r bs) h)
 sound Negated [] h = absurd (false≢true h)
 sound Negated (b ∷ bs) h =
@@ -91,9 +91,9 @@ sound NegMore [] h = absurd (false≢true h)
 sound NegMore (b ∷ bs) h =
     ⊎-elim (λ p. let l = sound NegMore bs (p .1) in (then b (p .0) (l .0), l .1, ap (λ x. b ∷ x) (l .2), l .3))
     (λ p. ⊎-elim (λ q. (end, b ∷ bs, refl, inr (bs, is b 124 bs (q .0), sound Literal bs (q .1))))
-      (λ q. ⊎-elim (λ z. (end, b ∷ bs, refl, inl (bs, is b 41 bs (z .0), sound Done bs (z .1)))) (λ z. absurd (false≢true (z .1)))
-        (test (eqb b 41) Done None (λ r. accepts r bs) (q .1)))
-      (test (eqb b 124) Literal (cond (eqb b 41) (Some Done) None) (λ r. accepts r bs) (p .1)))
+    (λ q. ⊎-elim (λ z. (end, b ∷ bs, refl, inl (bs, is b 41 bs (z .0), sound Done bs (z .1)))) (λ z. absurd (false≢true (z .1)))
+    (test (eqb b 41) Done None (λ r. accepts r bs) (q .1)))
+    (test (eqb b 124) Literal (cond (eqb b 41) (Some Done) None) (λ r. accepts r bs) (p .1)))
     (test (digit b) NegMore (cond (eqb b 124) (Some Literal) (cond (eqb b 41) (Some Done) None)) (λ r. accepts r bs) h)
 sound PosFirst [] h = absurd (false≢true h)
 sound PosFirst (b ∷ bs) h =
@@ -103,7 +103,7 @@ sound PosMore [] h = absurd (false≢true h)
 sound PosMore (b ∷ bs) h =
     ⊎-elim (λ p. let l = sound PosMore bs (p .1) in (then b (p .0) (l .0), l .1, ap (λ x. b ∷ x) (l .2), l .3))
     (λ p. ⊎-elim (λ q. (end, bs, is b 41 bs (q .0), sound Done bs (q .1))) (λ q. absurd (false≢true (q .1)))
-      (test (eqb b 41) Done None (λ r. accepts r bs) (p .1)))
+    (test (eqb b 41) Done None (λ r. accepts r bs) (p .1)))
     (test (digit b) PosMore (cond (eqb b 41) (Some Done) None) (λ r. accepts r bs) h)
 sound Done [] h = inl refl
 sound Done (b ∷ bs) h =

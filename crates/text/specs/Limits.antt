@@ -2,9 +2,9 @@
 use mathlib.Core.Path.{_≡_}
 use mathlib.Core.Bool.{cond}
 use mathlib.Core.List.{List, [], _∷_}
-use Prim.Native.Nat.{ℕ, _<_, _≤_, min, max}
+use Prim.Native.Nat.{ℕ, _+_, _<_, _≤_, min, max}
 use lib.Dec.{eqb}
-use lib.ListN.{drop}
+use lib.ListN.{length, drop, getD}
 use Rattle.std.specs.declared.option.Option.{Option}
 use Rattle.std.specs.declared.option.Option.the-variants.{Some, None}
 use Rattle.std.specs.declared.result.Result.{Result}
@@ -12,7 +12,7 @@ use Rattle.std.specs.declared.result.Result.the-variants.{Ok, Err}
 use Rattle.text.specs.declared.verdict.Counts.{Counts}
 use Rattle.text.specs.declared.verdict.Fault.{Fault}
 use Rattle.text.specs.Grammar.{first-digit}
-use Rattle.text.specs.Judging.{run-value, Names, many, Too-great, Repeats, Limit}
+use Rattle.text.specs.Judging.{run-value, Names, Held, many, Too-great, Repeats, Limit}
 use Rattle.text.specs.Verdicts.{fault-number, fault-place}
 
 -- the condition at place i, where 1,001 stands for every number above 1,000
@@ -59,6 +59,14 @@ pub record Counted (s : List ℕ) (i : ℕ) (c : Counts) : Type 0 where
   pub few-clauses : c .clauses ≤ i
   pub few-literals : c .literals ≤ i
   pub low-top : c .conditions ≤ 1000
+
+-- The stamp of a condition: one more than the number of clauses before place i, where the body around that place holds
+-- the condition before it; else a lower number.
+pub record Stamped (s : List ℕ) (i : ℕ) (stamps : List ℕ) : Type 0 where
+  pub size : length stamps ≡ 1001
+  pub low : (n : ℕ) → getD stamps n 0 ≤ many 40 s i + 1
+  pub holds : (n : ℕ) → getD stamps n 0 ≡ many 40 s i + 1 → (j : ℕ) × Held s i n j
+  pub stamped : (n j : ℕ) → n ≤ 1000 → Held s i n j → getD stamps n 0 ≡ many 40 s i + 1
 
 -- no fault of the limits stands before place i
 abbrev pub Clear : List ℕ → ℕ → Type 0

@@ -11,6 +11,7 @@ ghost use Rattle.text.specs.Reading.{sheet-in, clauses-in, starts-in, Small};
 use crate::verdict::Counts;
 use crate::verdict::Fault;
 
+mod making;
 pub mod questions;
 mod scan;
 

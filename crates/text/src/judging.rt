@@ -1,5 +1,6 @@
 // Judging a text.
 ghost use Rattle.text.specs.Verdicts.{Judged, One-answer};
+ghost use Rattle.text.specs.Accepted.{Accepted-exactly, One-meaning};
 use crate::limits::Reader;
 use crate::states::form;
 use crate::verdict::Counts;
@@ -28,6 +29,20 @@ pub fn judge(text: &[u8]) -> Result<Counts, Fault>
 // The contract of `judge` leaves no choice of its answer.
 pub fn judged_once() -> u8
     ensures { λ _. ⌜ One-answer ⌝ }
+{
+    0
+}
+
+// The good texts are those of the grammar whose clauses keep the limits.
+pub fn accepted_stands() -> u8
+    ensures { λ _. ⌜ Accepted-exactly ⌝ }
+{
+    0
+}
+
+// The bytes of a text fix its clauses.
+pub fn one_meaning_stands() -> u8
+    ensures { λ _. ⌜ One-meaning ⌝ }
 {
     0
 }

@@ -7,7 +7,9 @@ mod verdict;
 
 pub use in_place::TextSheet;
 pub use in_place::questions::TextSource;
+pub use judging::accepted_stands;
 pub use judging::judge;
 pub use judging::judged_once;
+pub use judging::one_meaning_stands;
 pub use verdict::Counts;
 pub use verdict::Fault;

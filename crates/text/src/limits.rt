@@ -5,8 +5,8 @@ ghost use Prim.Native.Nat.{ℕ, _+_, _<_, _≤_, min, max};
 ghost use lib.ListN.{length, getD, drop};
 ghost use Rattle.std.specs.Orderings.{When};
 ghost use Rattle.text.specs.Grammar.{digit};
-ghost use Rattle.text.specs.Judging.{run-value, Names, Negated, Held, Too-great, Too-many, many};
-ghost use Rattle.text.specs.Limits.{Read, Wrong, Lowest, Counted, Limits, lead-value};
+ghost use Rattle.text.specs.Judging.{run-value, Negated, Too-great, Too-many, many};
+ghost use Rattle.text.specs.Limits.{Read, Wrong, Lowest, Counted, Stamped, Limits, lead-value};
 use crate::verdict::Counts;
 use crate::verdict::Fault;
 
@@ -71,46 +71,12 @@ impl Reader<'_> {
         }
     }
 
-    // Whether the P of the negated condition `n` stands at `j`.
-    fn names(&self, j: usize, n: u16) -> bool
-        requires { ⌜ j < length (now (now self .bytes)) ⌝ ∗ ⌜ n ≤ 1000 ⌝ }
-        ensures { λ r. ⌜ When r (Names (now (now (self .entry) .bytes)) j n × Negated (now (now (self .entry) .bytes)) j) (Names (now (now (self .entry) .bytes)) j n → Negated (now (now (self .entry) .bytes)) j → ⊥) ⌝ }
-    {
-        if !self.negated(j) {
-            return false;
-        }
-        match self.condition(j) {
-            Some(m) => {
-                if m == n {
-                    return true;
-                }
-                false
-            }
-            None => false,
-        }
-    }
-
-    // Whether the body around `i` has condition `n` before `i`.
-    fn held(&self, i: usize, n: u16) -> bool
-        requires { ⌜ i < length (now (now self .bytes)) ⌝ ∗ ⌜ n ≤ 1000 ⌝ }
-        ensures { λ r. ⌜ When r ((j : ℕ) × Held (now (now (self .entry) .bytes)) i n j) ((j : ℕ) → Held (now (now (self .entry) .bytes)) i n j → ⊥) ⌝ }
-    {
-        let mut j = i;
-        while j > 0 {
-            j -= 1;
-            if self.bytes[j] as char == '(' {
-                return false;
-            }
-            if self.names(j, n) {
-                return true;
-            }
-        }
-        false
-    }
-
     // Whether the condition at `i` is too great or repeated.
-    fn number_fault(&self, i: usize) -> Option<Fault>
-        requires { ⌜ i < length (now (now self .bytes)) ⌝ }
+    fn number_fault(&self, i: usize, c: Counts, stamps: &[u16]) -> Option<Fault>
+        requires within { ⌜ i < length (now (now self .bytes)) ⌝ }
+        requires short { ⌜ i < 60000 ⌝ }
+        requires counted { ⌜ Counted (now (now self .bytes)) i c ⌝ }
+        requires stamped { ⌜ Stamped (now (now self .bytes)) i (now stamps) ⌝ }
         ensures { λ r. ⌜ Wrong (now (now (self .entry) .bytes)) i r ⌝ }
     {
         match self.condition(i) {
@@ -122,7 +88,7 @@ impl Reader<'_> {
                 if !self.negated(i) {
                     return None;
                 }
-                if self.held(i, n) {
+                if stamps[n as usize] == c.clauses + 1 {
                     return Some(Fault::Repeated(i));
                 }
                 None
@@ -130,15 +96,36 @@ impl Reader<'_> {
         }
     }
 
+    // Stamps the condition at `i`, if it is one of a body, with the number of this clause.
+    fn stamp(&self, i: usize, c: Counts, stamps: &mut [u16])
+        requires within { ⌜ i < length (now (now self .bytes)) ⌝ }
+        requires short { ⌜ i < 60000 ⌝ }
+        requires small { ⌜ (Too-great (now (now self .bytes)) i → ⊥) ⌝ }
+        requires counted { ⌜ Counted (now (now self .bytes)) i c ⌝ }
+        requires stamped { ⌜ Stamped (now (now self .bytes)) i (now stamps) ⌝ }
+        ensures { λ _. ⌜ Stamped (now (now (self .entry) .bytes)) (i + 1) (now (stamps .exit)) ⌝ }
+    {
+        if !self.negated(i) {
+            return;
+        }
+        match self.condition(i) {
+            None => {}
+            Some(n) => stamps[n as usize] = c.clauses + 1,
+        }
+    }
+
     // The lowest fault at `i`, before which the text has so many clauses and literals.
-    fn fault_at(&self, i: usize, clauses: u16, literals: u16) -> Option<Fault>
-        requires { ⌜ i < length (now (now self .bytes)) ⌝ ∗ ⌜ clauses ≡ many 40 (now (now self .bytes)) i ⌝ ∗ ⌜ literals ≡ many 80 (now (now self .bytes)) i ⌝ }
+    fn fault_at(&self, i: usize, c: Counts, stamps: &[u16]) -> Option<Fault>
+        requires within { ⌜ i < length (now (now self .bytes)) ⌝ }
+        requires short { ⌜ i < 60000 ⌝ }
+        requires counted { ⌜ Counted (now (now self .bytes)) i c ⌝ }
+        requires stamped { ⌜ Stamped (now (now self .bytes)) i (now stamps) ⌝ }
         ensures { λ r. ⌜ Lowest (now (now (self .entry) .bytes)) i r ⌝ }
     {
-        match self.number_fault(i) {
+        match self.number_fault(i, c, stamps) {
             Some(f) => Some(f),
             None => {
-                if self.too_many(i, clauses, literals) {
+                if self.too_many(i, c.clauses, c.literals) {
                     return Some(Fault::TooMany(i));
                 }
                 None
@@ -146,6 +133,7 @@ impl Reader<'_> {
         }
     }
 
+    // Whether clause 2,001 or literal 8,001 begins at `i`.
     fn too_many(&self, i: usize, clauses: u16, literals: u16) -> bool
         requires { ⌜ i < length (now (now self .bytes)) ⌝ ∗ ⌜ clauses ≡ many 40 (now (now self .bytes)) i ⌝ ∗ ⌜ literals ≡ many 80 (now (now self .bytes)) i ⌝ }
         ensures { λ r. ⌜ When r (Too-many (now (now (self .entry) .bytes)) i) (Too-many (now (now (self .entry) .bytes)) i → ⊥) ⌝ }
@@ -180,8 +168,16 @@ impl Reader<'_> {
         ensures { λ r. ⌜ Counted (now (now (self .entry) .bytes)) (i + 1) r ⌝ }
     {
         match self.bytes[i] as char {
-            '(' => Counts { clauses: c.clauses + 1, conditions: c.conditions, literals: c.literals },
-            'P' => Counts { clauses: c.clauses, conditions: self.raised(c.conditions, i), literals: c.literals + 1 },
+            '(' => Counts {
+                clauses: c.clauses + 1,
+                conditions: c.conditions,
+                literals: c.literals,
+            },
+            'P' => Counts {
+                clauses: c.clauses,
+                conditions: self.raised(c.conditions, i),
+                literals: c.literals + 1,
+            },
             _ => c,
         }
     }
@@ -191,11 +187,19 @@ impl Reader<'_> {
         requires { ⌜ end ≤ length (now (now self .bytes)) ⌝ ∗ ⌜ end ≤ 60000 ⌝ }
         ensures { λ r. ⌜ Limits (now (now (self .entry) .bytes)) end r ⌝ }
     {
-        let mut counts = Counts { clauses: 0, conditions: 0, literals: 0 };
+        let mut counts = Counts {
+            clauses: 0,
+            conditions: 0,
+            literals: 0,
+        };
+        let mut stamps = [0u16; 1001];
         for i in 0..end {
-            match self.fault_at(i, counts.clauses, counts.literals) {
+            match self.fault_at(i, counts, &stamps) {
                 Some(fault) => return Err(fault),
-                None => counts = self.noted(counts, i),
+                None => {
+                    self.stamp(i, counts, &mut stamps);
+                    counts = self.noted(counts, i);
+                }
             }
         }
         Ok(counts)

@@ -1,7 +1,7 @@
 use native.Mathlib.Omega.{arith}
 use mathlib.Core.Path.{_≡_, sym, _∙_}
 use Rattle.text.proofs.Sound.{longest}
-use Rattle.text.proofs.Passes.{told-limit, outside-at, good-at}
+use Rattle.text.proofs.Passes.{refused-at, outside-at, good-at}
 use Rattle.text.proofs.judging.judge.Needs as need
 
 pub limits-requires : need.limits-requires
@@ -13,9 +13,7 @@ returns-then-inside c =
     (c .if-text-gt60000 .left, good-at (c .args .text .now) (c .form-end .result .0) (c .form-end .ensures .0) (sym (c .form-end .ensures .1) ∙ c .if-inside .taken) (c .in-Ok .counts) (l .0) (l .1))
 
 pub returns-in-Err : need.returns-in-Err
-returns-in-Err c =
-    let l = c .in-Err .ensures tt in
-    (c .if-text-gt60000 .left, told-limit (c .args .text .now) _ (c .in-Err .f .place) (omega (arith, l .0)) (l .1) (l .2) (l .3))
+returns-in-Err c = refused-at (c .args .text .now) (c .form-end .result .0) (c .form-end .ensures .0) (c .if-text-gt60000 .left) (c .in-Err .f) (c .in-Err .ensures tt)
 
 pub returns-else-inside : need.returns-else-inside
 returns-else-inside c =

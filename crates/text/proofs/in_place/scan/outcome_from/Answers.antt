@@ -27,11 +27,11 @@ pub loop-p-again : need.loop-p-again
 loop-p-again c =
     let s = c .args .s .now in
     let p = c .loop-p .p in
-    elim (c .match-s-p .came)
-    [ in-P·else-not-neg w ↦
-        ap (λ b. outcome-in b (drop (p + 1) s)) (w .neg-is)
-        ∙ (sym (outcome-negated s p (c .loop-p-test .taken) (w .in-P .is)) ∙ (sym (ap (λ b. outcome-in b (drop p s)) (w .if-not-neg .left)) ∙ c .loop-p .inv))
-    | in-rest w ↦
-        ap (λ b. outcome-in b (drop (p + 1) s)) (w .neg-is)
-        ∙ (sym (outcome-other s p (c .loop-p-test .taken) (c .loop-p .neg) (λ e. omega arith) (λ e. omega arith)) ∙ c .loop-p .inv)
+    elim (c .match-s-p .came) [
+      | in-P·else-not-neg w ↦
+          ap (λ b. outcome-in b (drop (p + 1) s)) (w .neg-is)
+          ∙ (sym (outcome-negated s p (c .loop-p-test .taken) (w .in-P .is)) ∙ (sym (ap (λ b. outcome-in b (drop p s)) (w .if-not-neg .left)) ∙ c .loop-p .inv))
+      | in-rest w ↦
+          ap (λ b. outcome-in b (drop (p + 1) s)) (w .neg-is)
+          ∙ (sym (outcome-other s p (c .loop-p-test .taken) (c .loop-p .neg) (λ e. omega arith) (λ e. omega arith)) ∙ c .loop-p .inv)
     ]

@@ -18,17 +18,17 @@ pub loop-p-again : need.loop-p-again
 loop-p-again c =
     let s = c .args .s .now in
     let p = c .loop-p .p in
-    elim (c .match-s-p .came)
-    [ in-P·then-neg w ↦
-        let e = ap (λ n. body-in n (drop p s)) (w .if-neg .taken) ∙ (body-negated s p (c .loop-p-test .taken) (w .in-P .is)) in
-        let f = ap (λ n. length (body-in n (drop (p + 1) s))) (w .neg-is) in
-        (omega (arith, ap length e, f, w .n-is), omega (arith, w .n-is))
-    | in-P·else-neg w ↦
-        let e = ap (λ n. body-in n (drop p s)) (w .if-neg .left) ∙ (body-letter s p (c .loop-p-test .taken) (w .in-P .is)) in
-        let f = ap (λ n. length (body-in n (drop (p + 1) s))) (w .neg-is) in
-        (omega (arith, ap length e, f, w .n-is), omega (arith, w .n-is))
-    | in-rest w ↦
-        let e = body-other s p (c .loop-p-test .taken) (c .loop-p .neg) (λ e. omega arith) (λ e. omega arith) in
-        let f = ap (λ n. length (body-in n (drop (p + 1) s))) (w .neg-is) in
-        (omega (arith, ap length e, f, w .n-is), omega (arith, w .n-is))
+    elim (c .match-s-p .came) [
+      | in-P·then-neg w ↦
+          let e = ap (λ n. body-in n (drop p s)) (w .if-neg .taken) ∙ (body-negated s p (c .loop-p-test .taken) (w .in-P .is)) in
+          let f = ap (λ n. length (body-in n (drop (p + 1) s))) (w .neg-is) in
+          (omega (arith, ap length e, f, w .n-is), omega (arith, w .n-is))
+      | in-P·else-neg w ↦
+          let e = ap (λ n. body-in n (drop p s)) (w .if-neg .left) ∙ (body-letter s p (c .loop-p-test .taken) (w .in-P .is)) in
+          let f = ap (λ n. length (body-in n (drop (p + 1) s))) (w .neg-is) in
+          (omega (arith, ap length e, f, w .n-is), omega (arith, w .n-is))
+      | in-rest w ↦
+          let e = body-other s p (c .loop-p-test .taken) (c .loop-p .neg) (λ e. omega arith) (λ e. omega arith) in
+          let f = ap (λ n. length (body-in n (drop (p + 1) s))) (w .neg-is) in
+          (omega (arith, ap length e, f, w .n-is), omega (arith, w .n-is))
     ]

@@ -2,16 +2,31 @@ use native.Mathlib.Omega.{arith}
 use mathlib.Core.Path.{_≡_, refl, subst}
 use mathlib.Core.Logic.{inl}
 use borrow.Author.Count.{below-more}
+use Prim.Native.Nat.{ℕ}
 use Rattle.text.specs.Judging.{Limit}
 use Rattle.text.specs.Limits.{Counted}
+use Rattle.text.proofs.Stamps.{stamps-start}
 use Rattle.text.proofs.limits.Reader.limits.Needs as need
-use Prim.Native.Nat.{ℕ}
+
+pub loop-i-holds : need.loop-i-holds
+loop-i-holds c = (
+  λ j l. absurd (omega arith),
+  record { clauses-is = refl; literals-is = refl; top-is = omega arith; few-clauses = omega arith; few-literals = omega arith; low-top = omega arith },
+  stamps-start (c .args .self .now .bytes .now),
+)
+
+pub stamp-requires : need.stamp-requires
+stamp-requires c κs = record { within = omega arith; short = omega arith; small = λ t. c .in-None .ensures tt 3 (inl (refl, t)); counted = c .loop-i .inv .1; stamped = c .loop-i .inv .2 }
 
 pub noted-counts-requires : need.noted-counts-requires
 noted-counts-requires c κs = (omega arith, (omega arith, (λ t. c .in-None .ensures tt 3 (inl (refl, t)), c .loop-i .inv .1)))
 
 pub loop-i-again : need.loop-i-again
-loop-i-again c = (below-more (λ j. (g : ℕ) → Limit (c .args .self .now .bytes .now) g j → ⊥) _ (c .loop-i .inv .0) (c .in-None .ensures tt), c .noted-counts .ensures)
+loop-i-again c = (
+  below-more (λ j. (g : ℕ) → Limit (c .args .self .now .bytes .now) g j → ⊥) _ (c .loop-i .inv .0) (c .in-None .ensures tt),
+  c .noted-counts .ensures,
+  c .stamp .ensures,
+)
 
 pub returns : need.returns
 returns c =
