@@ -5,10 +5,20 @@ use mathlib.Core.Logic.{_⊎_, inl, inr, ⊎-elim}
 use mathlib.Core.List.{List}
 use native.Mathlib.Omega.{arith}
 use lib.ListN.{length, getD}
-use Rattle.std.proofs.shelf.Tests.{cases-lt, cases-order}
-use Rattle.round.proofs.Sets.{split}
 use Rattle.round.specs.Rows.{at, Rows, Body, Filled, Lawful-rows}
-use Rattle.round.specs.Ranks.{Level, Rank}
+
+-- Level k holds the conditions with a pebbling of length at most k: the outcomes of the clauses whose conditions
+-- are all in the level before.
+abbrev pub Level : Rows → ℕ → ℕ → Type 0
+Level t zero p = ⊥
+Level t (suc k) p =
+    (c : ℕ) × (c < length (t .outs)) × (at (t .outs) c ≡ p) × ((j : ℕ) → Body t c j → Level t k (at (t .places) j))
+
+-- r is the length of the shortest pebblings of p, or 0 if p has none
+pub record Rank (t : Rows) (p r : ℕ) : Type 0 where
+  pub holds : 0 < r → Level t r p
+  pub least : (k : ℕ) → k < r → Level t k p → ⊥
+  pub none : r ≡ 0 → (k : ℕ) → Level t k p → ⊥
 
 -- every ranked condition has a clause with conditions of lower ranks
 abbrev pub Founded : Rows → List ℕ → Type 0
@@ -57,9 +67,14 @@ sound t rank f zero p l h = absurd (omega arith)
 sound t rank f (suc n) p l h =
     let r : ℕ = at rank p - 1 in
     let g = f p h in
-    let v : Level t (suc r) p = (g .0, g .1, g .2, λ j b.
-        level-mono t (at rank (at (t .places) j)) r (at (t .places) j) (omega (arith, g .3 j b))
-        (sound t rank f n (at (t .places) j) (omega (arith, g .3 j b)) (g .3 j b .0))) in
+    let v : Level t (suc r) p = (
+      g .0,
+      g .1,
+      g .2,
+      λ j b.
+          level-mono t (at rank (at (t .places) j)) r (at (t .places) j) (omega (arith, g .3 j b))
+          (sound t rank f n (at (t .places) j) (omega (arith, g .3 j b)) (g .3 j b .0)),
+    ) in
     moved t (suc r) (at rank p) p (omega arith) v
 
 -- a condition in a level has a rank up to it
@@ -68,21 +83,15 @@ full n t w rank f zero p h v = absurd v
 full n t w rank f (suc k) p h v =
     let e : at (t .outs) (v .0) ≡ p = v .2 in
     let g : (0 < at rank (at (t .outs) (v .0))) × (at rank (at (t .outs) (v .0)) ≤ suc k) =
-        f (v .0) k (v .1) (omega arith)
-        (λ j b. full n t w rank f k (at (t .places) j) (condition n t w (v .0) j (v .1) b .0) (v .3 j b)) in
+    f (v .0) k (v .1) (omega arith)
+    (λ j b. full n t w rank f k (at (t .places) j) (condition n t w (v .0) j (v .1) b .0) (v .3 j b)) in
     rw e at g
 
 -- such ranks are the lengths of the shortest pebblings
 pub are-ranks : (n : ℕ) (t : Rows) → Lawful-rows n t → (rank : List ℕ) → Founded t rank → Full t rank
     → (p : ℕ) → 0 < p → Rank t p (at rank p)
 are-ranks n t w rank f g p h = record {
-    holds = sound t rank f (at rank p) p (omega arith);
-    least = λ k l v. omega (arith, full n t w rank g k p h v);
-    none = λ e k v. omega (arith, full n t w rank g k p h v) }
-
--- a condition has one rank, so the contract fixes the table
-pub rank-unique : (t : Rows) (p r s : ℕ) → Rank t p r → Rank t p s → r ≡ s
-rank-unique t p r s a b = split (cases-order r s) (λ e. e) (λ o. absurd (split o (below r s a b) (below s r b a)))
-  where
-    below : (x y : ℕ) → Rank t p x → Rank t p y → x < y → ⊥
-    below x y u v l = split (cases-lt 0 x) (λ k. v .least x l (u .holds k)) (λ k. u .none (omega arith) y (v .holds (omega arith)))
+  holds = sound t rank f (at rank p) p (omega arith);
+  least = λ k l v. omega (arith, full n t w rank g k p h v);
+  none = λ e k v. omega (arith, full n t w rank g k p h v);
+}

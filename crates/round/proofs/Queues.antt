@@ -21,26 +21,25 @@ abbrev pub Same : ℕ → List ℕ → List ℕ → Type 0
 Same n queue queue′ = (i : ℕ) → i < n → at queue′ i ≡ at queue i
 
 module _ (o r : ℕ) (rank queue : List ℕ) (tail : ℕ) where
-
   pub entered-extends : (rank′ queue′ : List ℕ) (tail′ : ℕ) → Entered o r rank queue tail rank′ queue′ tail′ → Extends rank rank′
   entered-extends rank′ queue′ tail′ e q h = ⊎-elim
-    (λ a. ap (λ (x : List ℕ). at x q) (a .1))
-    (λ a. ap (λ (x : List ℕ). at x q) (a .1) ∙ at-other rank o r q (λ k. let z : at rank q ≡ at rank o = ap (at rank) k in omega (arith, a .4)))
-    (e .cases)
+      (λ a. ap (λ (x : List ℕ). at x q) (a .1))
+      (λ a. ap (λ (x : List ℕ). at x q) (a .1) ∙ at-other rank o r q (λ k. let z : at rank q ≡ at rank o = ap (at rank) k in omega (arith, a .4)))
+      (e .cases)
 
   pub entered-same : (rank′ queue′ : List ℕ) (tail′ : ℕ) → Entered o r rank queue tail rank′ queue′ tail′ → (tail ≤ tail′) × Same tail queue queue′
   entered-same rank′ queue′ tail′ e = ⊎-elim
-    (λ a. (omega (arith, a .0), λ i h. ap (λ (x : List ℕ). at x i) (a .2)))
-    (λ a. (omega (arith, a .0), λ i h. ap (λ (x : List ℕ). at x i) (a .2) ∙ at-other queue tail o i (omega arith)))
-    (e .cases)
+      (λ a. (omega (arith, a .0), λ i h. ap (λ (x : List ℕ). at x i) (a .2)))
+      (λ a. (omega (arith, a .0), λ i h. ap (λ (x : List ℕ). at x i) (a .2) ∙ at-other queue tail o i (omega arith)))
+      (e .cases)
 
   -- the outcome is ranked then
   pub entered-ranked : (rank′ queue′ : List ℕ) (tail′ : ℕ) → o < length rank → 0 < r → 0 < o → Entered o r rank queue tail rank′ queue′ tail′ → 0 < at rank′ o
   entered-ranked rank′ queue′ tail′ l p h e = ⊎-elim
-    (λ a. let z : at rank′ o ≡ at rank o = ap (λ (x : List ℕ). at x o) (a .1) in
-        ⊎-elim (λ b. omega arith) (λ b. omega arith) (a .3))
-    (λ a. let z : at rank′ o ≡ r = ap (λ (x : List ℕ). at x o) (a .1) ∙ at-same rank o r o l refl in omega arith)
-    (e .cases)
+      (λ a. let z : at rank′ o ≡ at rank o = ap (λ (x : List ℕ). at x o) (a .1) in
+      ⊎-elim (λ b. omega arith) (λ b. omega arith) (a .3))
+      (λ a. let z : at rank′ o ≡ r = ap (λ (x : List ℕ). at x o) (a .1) ∙ at-same rank o r o l refl in omega arith)
+      (e .cases)
 
 -- every ranked condition has a rank up to level + 1
 pub highest : (t : Rows) (rank queue : List ℕ) (head end tail level : ℕ) → Queued t rank queue head end tail level
@@ -65,7 +64,7 @@ queued-set t rank queue head end tail level q sp c l m pos zero′ body =
     let ext : Extends rank rank′ = λ x h. at-other rank o (level + 1) x (λ k. let z : at rank x ≡ at rank o = ap (at rank) k in omega arith) in
     let mine : at rank′ o ≡ level + 1 = at-same rank o (level + 1) o m refl in
     let keeps : (i : ℕ) → i < tail → at rank′ (at queue′ i) ≡ at rank (at queue i) =
-        λ i h. ap (at rank′) (same i h) ∙ ext (at queue i) (q .ranked i h .0) in
+    λ i h. ap (at rank′) (same i h) ∙ ext (at queue i) (q .ranked i h .0) in
     let last : at rank′ (at queue′ tail) ≡ level + 1 = ap (at rank′) new ∙ mine in
     let old : (x : ℕ) → (x ≡ o → ⊥) → at rank′ x ≡ at rank x = λ x h. at-other rank o (level + 1) x h in
     let len : length rank′ ≡ length rank = length-set rank o (level + 1) in
@@ -73,23 +72,29 @@ queued-set t rank queue head end tail level q sp c l m pos zero′ body =
       room = omega (arith, zeros-set rank o (level + 1) m zero′ (omega arith), q .room);
       order = (q .order .0, omega (arith, q .order .1));
       ranked = λ i h. split (cases-lt i tail)
-        (λ k. (omega (arith, keeps i k, q .ranked i k), omega (arith, same i k, q .ranked i k)))
-        (λ k. let e : i ≡ tail = omega arith in rw e (omega arith, omega arith));
+          (λ k. (omega (arith, keeps i k, q .ranked i k), omega (arith, same i k, q .ranked i k)))
+          (λ k. let e : i ≡ tail = omega arith in rw e (omega arith, omega arith));
       low = λ i h. omega (arith, keeps i (omega (arith, q .order)), q .low i h);
       front = λ i h k. keeps i (omega (arith, q .order)) ∙ q .front i h k;
       back = λ i h k. ⊎-elim
-        (λ b. keeps i b ∙ q .back i h b)
-        (λ b. let e : i ≡ tail = omega arith in rw e last)
-        (cases-lt i tail);
+          (λ b. keeps i b ∙ q .back i h b)
+          (λ b. let e : i ≡ tail = omega arith in rw e last)
+          (cases-lt i tail);
       listed = λ p h. ⊎-elim
-        (λ e. (tail, omega arith, new ∙ sym e))
-        (λ ne. let g = q .listed p (omega (arith, old p ne)) in (g .0, omega (arith, g .1), same (g .0) (g .1) ∙ g .2))
-        (cases-eq p o);
+          (λ e. (tail, omega arith, new ∙ sym e))
+          (λ ne. let g = q .listed p (omega (arith, old p ne)) in (g .0, omega (arith, g .1), same (g .0) (g .1) ∙ g .2))
+          (cases-eq p o);
       founded = λ p h. ⊎-elim
-        (λ e. (c, l, sym e, λ j b. let v = body j b in let x = ext (at (t .places) j) (v .0) in let y : at rank′ p ≡ at rank′ o = ap (at rank′) e in (omega arith, omega arith)))
-        (λ ne. let g = q .founded p (omega (arith, old p ne)) in (g .0, g .1, g .2, λ j b.
-            let v = g .3 j b in let x = ext (at (t .places) j) (v .0) in let y = old p ne in (omega arith, omega arith)))
-        (cases-eq p o) }
+          (λ e. (c, l, sym e, λ j b. let v = body j b in let x = ext (at (t .places) j) (v .0) in let y : at rank′ p ≡ at rank′ o = ap (at rank′) e in (omega arith, omega arith)))
+          (λ ne. let g = q .founded p (omega (arith, old p ne)) in (
+            g .0,
+            g .1,
+            g .2,
+            λ j b.
+                let v = g .3 j b in let x = ext (at (t .places) j) (v .0) in let y = old p ne in (omega arith, omega arith),
+          ))
+          (cases-eq p o);
+    }
 
 pub queued-entered : (t : Rows) (rank queue : List ℕ) (head end tail level : ℕ) → Queued t rank queue head end tail level
     → length rank ≤ length queue → (c : ℕ) → c < length (t .outs) → at (t .outs) c < length rank

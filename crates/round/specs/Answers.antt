@@ -1,4 +1,5 @@
--- What the calls on a round answer, read like the rules: refused with this if .., then with that if .., else this answer.
+-- What the calls on a round answer: refused with this if .., then with that if .., else this answer.
+-- Assumes nothing.
 use mathlib.Core.Path.{_≡_}
 use mathlib.Core.List.{List, [], _∷_, _++_}
 use mathlib.Core.Logic.{_⊎_}
@@ -41,18 +42,23 @@ Asks s p =
 abbrev pub words-for : ℕ → ℕ
 words-for top = (top + 31) / 32
 
--- the bits of a word: condition first + b is bit b, for b below n
+-- a word of n bits: number first + b is bit b
 abbrev pub bits : (ℕ → Bool) → ℕ → ℕ → ℕ
 bits f first zero = 0
 bits f first (suc b) = bits f first b + cond (f (first + b)) (2 ^ b) 0
 
+-- words of 32 bits each, from number 1 on
 abbrev pub words-of : (ℕ → Bool) → ℕ → List ℕ
 words-of f zero = []
 words-of f (suc w) = words-of f w ++ (bits f (32 * w + 1) 32 ∷ [])
 
+-- the test, failed by every number above `top`
+abbrev pub up-to : ℕ → (ℕ → Bool) → ℕ → Bool
+up-to top f p = f p && leb p top
+
 -- The set of the conditions from 1 to top that pass the test: condition p is bit (p − 1) mod 32 of word (p − 1) div 32.
 abbrev pub roll-words : (ℕ → Bool) → ℕ → List ℕ
-roll-words f top = words-of (λ p. f p && leb p top) (words-for top)
+roll-words f top = words-of (up-to top f) (words-for top)
 
 -- What a roll into a buffer of n words answers and writes: how many conditions are in force, and their set.
 abbrev pub Rolls : Sheet → ℕ → Answer → Type 0

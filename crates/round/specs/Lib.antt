@@ -1,13 +1,12 @@
 pub mod Rows
+pub mod Occurrences
 pub mod Ranks
 pub mod Steps
-pub mod Broken
 pub mod Answers
 pub mod Writing
 pub mod Held
 pub mod Replies
 pub mod Good
 pub mod Sound
-pub mod Sets
 pub mod Determined
 pub mod Scratch

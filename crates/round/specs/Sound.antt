@@ -9,7 +9,7 @@ use Rattle.horn.specs.Sources.{Lawful-source}
 use Rattle.horn.proofs.Lawfulness.{lawful-tested}
 use Rattle.round.specs.Rows.{clause-in}
 use Rattle.round.specs.Held.{held-rows}
-use Rattle.round.specs.Good.{Good, good, state-sheet}
+use Rattle.round.specs.Good.{Stocked, good, state-sheet}
 use Rattle.round.specs.declared.state.State.{State}
 use Rattle.round.specs.declared.sound.Round.{Round}
 
@@ -17,13 +17,14 @@ use Rattle.round.specs.declared.sound.Round.{Round}
 abbrev pub round-sheet : Round → Sheet
 round-sheet r = state-sheet (r .state)
 
-state-lawful : (st : State) → Good st → Lawful-source (state-sheet st)
+state-lawful : (st : State) → Stocked st → Lawful-source (state-sheet st)
 state-lawful st g =
     let n = length-map-counting (clause-in (held-rows (st .tables))) 0 (length (vec-items (st .tables .outcomes))) in
     record {
       few-conditions = g .few-conditions;
       few-clauses = omega (arith, n, st .tables .outcomes .ok .0, g .few-clauses);
-      lawful = lawful-tested (state-sheet st) .0 (g .lawfully) }
+      lawful = lawful-tested (state-sheet st) .0 (g .lawfully);
+    }
 
 pub round-lawful : (r : Round) → Lawful-source (round-sheet r)
-round-lawful r = state-lawful (r .state) (good (r .state) (r .ok))
+round-lawful r = state-lawful (r .state) (good (r .state) (r .ok) .stocked)

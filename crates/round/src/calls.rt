@@ -9,6 +9,7 @@ ghost use Rattle.round.specs.Replies.{opening-answer, ask-answer, roll-answer,
 ghost use Rattle.round.specs.Sound.{round-sheet};
 use crate::refusals::Opened;
 use crate::refusals::Refusal;
+use crate::rolling::words_for;
 use crate::rolling::write_roll;
 use crate::sound::Round;
 use crate::state::State;
@@ -49,7 +50,7 @@ impl Round {
         ensures buffer { λ r. ⌜ now (words .exit) ≡ buffer-left r (in-force (round-sheet (now (self .entry)))) (round-sheet (now (self .entry)) .top) (now (words .entry)) ⌝ }
     {
         let top = self.state.tables.conditions;
-        if words.len() < (top as usize + 31) / 32 {
+        if words.len() < words_for(top) {
             return Err(Refusal::ShortBuffer);
         }
         Ok(write_roll(&self.state.rank, top, words))

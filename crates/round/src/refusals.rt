@@ -5,9 +5,13 @@ ghost use Rattle.round.specs.Replies.{refusal-number};
 // Why a call was refused.
 #[derive(Clone, Copy)]
 pub enum Refusal {
+    // The source has more clauses or literals than a sheet may have.
     TooLarge,
+    // The number is not that of a condition.
     NoCondition,
+    // No choice would satisfy the clauses; the lowest ban that would be broken.
     Contradiction(u16),
+    // The buffer has too few places.
     ShortBuffer,
 }
 
@@ -25,7 +29,8 @@ impl Refusal {
     }
 }
 
-// What an accepted opening answers.
+// What an accepted opening answers: how many clauses and conditions there are, and how many body places hold a condition
+// in force.
 #[derive(Clone, Copy)]
 pub struct Opened {
     pub clauses: u16,

@@ -1,11 +1,13 @@
 // What a round is made of: the clauses, the rank of each condition, and tables for the computation of ranks.
 ghost use mathlib.Core.Path.{_≡_};
-ghost use lib.ListN.{length};
+ghost use Rattle.std.specs.Of.Vec.{vec-items};
 ghost use Rattle.std.specs.Vec.{made};
 ghost use Rattle.horn.specs.Sheets.{empty-sheet};
+ghost use Rattle.horn.specs.Bans.{discharged as discharged-places};
 ghost use Rattle.round.specs.Answers.{Opens};
+ghost use Rattle.round.specs.Ranks.{Ranks, Scanned};
 ghost use Rattle.round.specs.Replies.{opening-answer, sheet-left};
-ghost use Rattle.round.specs.Good.{Good, Usable, state-sheet};
+ghost use Rattle.round.specs.Good.{Good, Stocked, Usable, state-sheet};
 use crate::propagation::Scratch;
 use crate::propagation::count_discharged;
 use crate::propagation::lowest_broken;
@@ -49,8 +51,35 @@ impl State {
         self.rank.fill(0);
     }
 
-    // Copies a source's clauses, ranks the conditions and looks for a broken ban. Where it is refused the state is left
-    // empty.
+    // Ranks the conditions anew.
+    fn rank_conditions(&mut self)
+        requires { ⌜ Stocked (now self) ⌝ }
+        ensures tables { λ _. ⌜ now (self .exit) .tables ≡ now (self .entry) .tables ⌝ }
+        ensures stocked { λ _. ⌜ Stocked (now (self .exit)) ⌝ }
+        ensures ranked { λ _. ⌜ Ranks (state-sheet (now (self .exit))) (vec-items (now (self .exit) .rank)) ⌝ }
+    {
+        ranks(self.tables.rows(), &mut self.rank, &mut self.scratch);
+    }
+
+    // The lowest broken ban, if there is one.
+    fn broken(&self) -> Option<u16>
+        requires stocked { ⌜ Stocked (now self) ⌝ }
+        requires ranked { ⌜ Ranks (state-sheet (now self)) (vec-items (now self .rank)) ⌝ }
+        ensures { λ r. ⌜ Scanned (state-sheet (now (self .entry))) r ⌝ }
+    {
+        lowest_broken(self.tables.rows(), &self.rank)
+    }
+
+    // How many body places are discharged.
+    fn discharged(&self) -> u16
+        requires stocked { ⌜ Stocked (now self) ⌝ }
+        requires ranked { ⌜ Ranks (state-sheet (now self)) (vec-items (now self .rank)) ⌝ }
+        ensures { λ r. ⌜ r ≡ discharged-places (state-sheet (now (self .entry))) ⌝ }
+    {
+        count_discharged(self.tables.rows(), &self.rank)
+    }
+
+    // Copies a source's clauses, ranks the conditions and looks for a broken ban. Refused, it is left empty.
     pub(crate) fn open<S: Source>(&mut self, source: &S) -> Result<Opened, Refusal>
         requires { ⌜ Usable (now self) ⌝ }
         ensures good { λ _. ⌜ Good (now (self .exit)) ⌝ }
@@ -61,16 +90,16 @@ impl State {
             self.empty();
             return Err(Refusal::TooLarge);
         }
-        ranks(self.tables.rows(), &mut self.rank, &mut self.scratch);
-        match lowest_broken(self.tables.rows(), &self.rank) {
-            Some(n) => {
+        self.rank_conditions();
+        match self.broken() {
+            Some(ban) => {
                 self.empty();
-                Err(Refusal::Contradiction(n))
+                Err(Refusal::Contradiction(ban))
             }
             None => Ok(Opened {
                 clauses: self.tables.clauses(),
                 conditions: self.tables.conditions,
-                discharged: count_discharged(self.tables.rows(), &self.rank),
+                discharged: self.discharged(),
             }),
         }
     }

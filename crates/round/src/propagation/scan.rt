@@ -1,22 +1,19 @@
 ghost use Prim.Native.Nat.{ℕ, _≤_, _<_};
 ghost use Rattle.horn.specs.Bans.{discharged};
-ghost use Rattle.horn.specs.Sheets.{Lawful};
-ghost use Rattle.round.specs.Ranks.{Ranks, Scanned};
+ghost use Rattle.horn.specs.Sheets.{Lawful, all-of};
+ghost use Rattle.round.specs.Ranks.{Ranks, Scanned, ranked};
 ghost use Rattle.round.specs.Rows.{at, rows-of, sheet-in, Lawful-rows};
-ghost use Rattle.std.specs.Orderings.{When};
 ghost use lib.ListN.{length};
 ghost use mathlib.Core.Path.{_≡_};
-
 use super::ClauseRows;
 
-// Whether all places from `from` up to `end` hold conditions with a rank.
-fn all_ranked(from: usize, end: usize, places: &[u16], rank: &[u16]) -> bool
-    requires { ⌜ end ≤ length (now places) ⌝ }
-    requires { ⌜ ((j : ℕ) → j < length (now places) → at (now places) j < length (now rank)) ⌝ }
-    ensures { λ r. ⌜ When r ((j : ℕ) → from ≤ j → j < end → 0 < at (now (rank .entry)) (at (now (places .entry)) j)) ((j : ℕ) × (from ≤ j) × (j < end) × (at (now (rank .entry)) (at (now (places .entry)) j) ≡ 0)) ⌝ }
+// Whether all the conditions have ranks.
+fn all_ranked(conditions: &[u16], rank: &[u16]) -> bool
+    requires { ⌜ ((j : ℕ) → j < length (now conditions) → at (now conditions) j < length (now rank)) ⌝ }
+    ensures { λ r. ⌜ r ≡ all-of (ranked (now (rank .entry))) (now (conditions .entry)) ⌝ }
 {
-    for j in from..end {
-        if rank[places[j] as usize] == 0 {
+    for p in conditions {
+        if rank[*p as usize] == 0 {
             return false;
         }
     }
@@ -30,9 +27,8 @@ pub(crate) fn lowest_broken(clauses: ClauseRows<'_>, rank: &[u16]) -> Option<u16
     ensures { λ r. ⌜ ((top : ℕ) → Lawful (sheet-in top (rows-of (clauses .entry))) → Ranks (sheet-in top (rows-of (clauses .entry))) (now (rank .entry)) → Scanned (sheet-in top (rows-of (clauses .entry))) r) ⌝ }
 {
     for c in 0..clauses.outcomes.len() {
-        let from = clauses.starts[c] as usize;
-        let end = clauses.starts[c + 1] as usize;
-        if clauses.outcomes[c] == 0 && all_ranked(from, end, clauses.places, rank) {
+        let body = &clauses.places[clauses.starts[c] as usize..clauses.starts[c + 1] as usize];
+        if clauses.outcomes[c] == 0 && all_ranked(body, rank) {
             return Some(c as u16 + 1);
         }
     }

@@ -1,6 +1,5 @@
 ghost use Rattle.round.specs.Scratch.{Ready};
 ghost use Rattle.std.specs.Vec.{made};
-
 use std::alloc::AllocError;
 use std::alloc::Global;
 
@@ -24,6 +23,12 @@ impl Scratch {
         let next = vec![in heap; 0; 8256]?;
         let owner = vec![in heap; 0; 8256]?;
         let count = vec![in heap; 0; 2256]?;
-        Ok(Scratch { queue, first, next, owner, count })
+        Ok(Scratch {
+            queue,
+            first,
+            next,
+            owner,
+            count,
+        })
     }
 }

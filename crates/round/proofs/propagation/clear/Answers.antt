@@ -1,19 +1,12 @@
-use borrow.Author.Count.{below-more}
 use native.Mathlib.Omega.{arith}
-use mathlib.Core.Logic.{_≢_, ⊎-elim}
-use Prim.Native.Nat.{_<_}
-use lib.ListN.{length}
-use lib.Seq.{getD-set-same, getD-set-other}
+use mathlib.Core.Path.{refl}
 use Rattle.std.proofs.shelf.Lists.{getD-past}
 use Rattle.std.proofs.shelf.Tests.{cases-lt}
+use lib.ListN.{length}
+use Rattle.round.proofs.Sets.{split}
 use Rattle.round.proofs.propagation.clear.Needs as need
 
-pub loop-x-again : need.loop-x-again
-loop-x-again c =
-    below-more _ _
-    (λ k h. let ne : k ≢ c .loop-x .x-index = omega arith in rw getD-set-other (c .loop-x .inv k h))
-    (let lt : c .loop-x .x-index < length (c .loop-x .table) = omega arith in rw getD-set-same)
-
 pub returns : need.returns
-returns c = λ k.
-    ⊎-elim (c .loop-x .inv k) (λ h. getD-past (c .loop-x .table) k 0 (omega arith)) (cases-lt k (c .loop-x .x-index))
+returns c = λ k. split (cases-lt k (length (c .args .table .now)))
+    (λ h. c .fill .ensures .clones k 0 h refl)
+    (λ h. getD-past (c .fill .last .self) k 0 (omega (arith, c .fill .ensures .len)))

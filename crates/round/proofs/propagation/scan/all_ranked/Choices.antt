@@ -1,6 +1,8 @@
-use Prim.Native.Nat.{ℕ, _≤_, _<_}
-use Rattle.round.specs.Rows.{at}
+use mathlib.Core.Path.{_≡_}
+use lib.ListN.{drop}
+use Rattle.horn.specs.Sheets.{all-of}
+use Rattle.round.specs.Ranks.{ranked}
 use Rattle.round.proofs.propagation.scan.all_ranked.Given as given
 
-abbrev pub Inv-loop-j : given.InvT-loop-j
-Inv-loop-j l = (j : ℕ) → l .from ≤ j → j < l .j → 0 < at (l .rank) (at (l .places) j)
+abbrev pub Inv-loop-p : given.InvT-loop-p
+Inv-loop-p l = all-of (ranked (l .rank)) (l .conditions) ≡ all-of (ranked (l .rank)) (drop (l .p-index) (l .conditions))
