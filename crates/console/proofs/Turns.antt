@@ -41,11 +41,12 @@ rest-falls opening rest tail e = omega (arith, ap length e)
 rest-falls (asking n) rest tail e = omega (arith, ap length e)
 
 -- where the reading ends
-pub ended-here : (input out : List ℕ) (st : State) → So-far input [] out st → No-record [] → Served input out
-ended-here input out st s n = record {
+pub ended-here : (input rest out : List ℕ) (st : State) → So-far input rest out st → No-record rest → length rest ≡ 0 → Served input out
+ended-here input [] out st s n e = record {
     records = s .records; rest = []; lines = out; last = st;
     parsed = record { fitting = s .fitting; whole = s .whole; ended = n };
     session = s .session; whole = sym (append-nil out) }
+ended-here input (b ∷ bs) out st s n e = absurd (omega arith)
 
 pub broken-off : (input rest out after : List ℕ) (st : State) (offset : ℕ) → So-far input rest out st → No-record rest → 0 < length rest → offset ≡ length input - length rest
     → after ≡ out ++ line (codes "--") (refused in-record 15 (offset ∷ [])) → Served input after

@@ -1,6 +1,6 @@
 pub mod Records
 pub mod Lines
 pub mod Taking
-pub mod Origins
+pub mod Layers
 pub mod Session
 pub mod Serving

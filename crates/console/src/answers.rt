@@ -14,7 +14,7 @@ ghost use Rattle.console.specs.Taking.{meaning};
 ghost use Rattle.console.specs.Session.{Judging, Opening, Asking, Step, at-first, answer-reply};
 ghost use Rattle.console.specs.Serving.{desk-state, Printed};
 use crate::desk::Desk;
-use crate::lines::Origin;
+use crate::lines::Layer;
 use crate::lines::accept;
 use crate::lines::refuse;
 use crate::records::Record;
@@ -39,7 +39,7 @@ fn judge_sheet<'a>(heap: Global, out: &mut String, name: &str, bytes: &'a [u8], 
             *held = sheet;
             Ok(())
         }
-        Err(f) => refuse(heap, out, name, Origin::Text, f.number(), f.place()),
+        Err(f) => refuse(heap, out, name, Layer::Text, f.number(), f.place()),
     }
 }
 
@@ -57,7 +57,7 @@ fn ban(e: Refusal) -> Option<usize>
 fn refuse_call(heap: Global, out: &mut String, name: &str, e: Refusal) -> Result<(), AllocError>
     ensures { λ r. ⌜ made r (λ _. string-bytes (now (out .exit)) ≡ string-bytes (now (out .entry)) ++ line (now (name .entry)) (answer-reply (refusal e))) ⌝ }
 {
-    refuse(heap, out, name, Origin::Round, e.number(), ban(e))
+    refuse(heap, out, name, Layer::Round, e.number(), ban(e))
 }
 
 // Opens the round on the two sheets joined, the network's first.

@@ -4,5 +4,6 @@ mod desk;
 mod lines;
 mod records;
 mod serving;
+pub mod theorems;
 
 pub use serving::serve;

@@ -5,26 +5,26 @@ ghost use Rattle.std.specs.Of.String.{string-bytes};
 ghost use Rattle.std.specs.Vec.{made};
 ghost use Rattle.std.specs.Written.{decimal};
 ghost use Rattle.console.specs.Lines.{accepted, refused, numbers, optional, line, layer-name};
-ghost use Rattle.console.specs.Origins.{origin};
+ghost use Rattle.console.specs.Layers.{layer-of};
 use std::alloc::AllocError;
 use std::alloc::Global;
 
 // Where a refusal comes from.
 #[derive(Clone, Copy)]
-pub(crate) enum Origin {
+pub(crate) enum Layer {
     Record,
     Text,
     Round,
 }
 
-impl Origin {
+impl Layer {
     fn name(self) -> &'static str
-        ensures { λ r. ⌜ now r ≡ layer-name (origin self) ⌝ }
+        ensures { λ r. ⌜ now r ≡ layer-name (layer-of self) ⌝ }
     {
         match self {
-            Origin::Record => "record",
-            Origin::Text => "text",
-            Origin::Round => "round",
+            Layer::Record => "record",
+            Layer::Text => "text",
+            Layer::Round => "round",
         }
     }
 }
@@ -60,12 +60,12 @@ pub(crate) fn accept(heap: Global, out: &mut String, mark: &str, answer: &[u16])
 }
 
 // Adds the line of a refusal: its mark, ` no`, where it comes from, its number, and the place or ban that it names.
-pub(crate) fn refuse(heap: Global, out: &mut String, mark: &str, from: Origin, number: u8, place: Option<usize>) -> Result<(), AllocError>
-    ensures { λ r. ⌜ made r (λ _. string-bytes (now (out .exit)) ≡ string-bytes (now (out .entry)) ++ line (now (mark .entry)) (refused (origin «from») number (optional place))) ⌝ }
+pub(crate) fn refuse(heap: Global, out: &mut String, mark: &str, layer: Layer, number: u8, place: Option<usize>) -> Result<(), AllocError>
+    ensures { λ r. ⌜ made r (λ _. string-bytes (now (out .exit)) ≡ string-bytes (now (out .entry)) ++ line (now (mark .entry)) (refused (layer-of layer) number (optional place))) ⌝ }
 {
     out.push_str(mark)?;
     out.push_str(" no ")?;
-    out.push_str(from.name())?;
+    out.push_str(layer.name())?;
     push_number(heap, out, number as usize)?;
     push_place(heap, out, place)?;
     out.push_str("\n")

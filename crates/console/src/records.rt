@@ -7,7 +7,7 @@ ghost use Rattle.console.specs.Taking.{Taken};
 
 // A record; its text is a part of the input.
 #[derive(Clone, Copy)]
-pub enum Record<'a> {
+pub(crate) enum Record<'a> {
     Network(&'a [u8]),
     Show(&'a [u8]),
     Opening,
@@ -34,7 +34,7 @@ fn cut(bytes: &[u8], n: u16) -> Option<(&[u8], &[u8])>
 }
 
 // The first record and what follows it, if a record begins here.
-pub fn take_record(input: &[u8]) -> Option<(Record<'_>, &[u8])>
+pub(crate) fn take_record(input: &[u8]) -> Option<(Record<'_>, &[u8])>
     ensures { λ r. ⌜ Taken (now (input .entry)) r ⌝ }
 {
     match input {

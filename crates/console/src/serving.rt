@@ -3,9 +3,9 @@ ghost use mathlib.Core.Path.{_≡_};
 ghost use lib.ListN.{take};
 ghost use Rattle.std.specs.Of.String.{string-bytes};
 ghost use Rattle.std.specs.Vec.{made};
-ghost use Rattle.console.specs.Session.{Served, Served-once};
+ghost use Rattle.console.specs.Session.{Served};
 use crate::desk::Desk;
-use crate::lines::Origin;
+use crate::lines::Layer;
 use crate::lines::refuse;
 use crate::records::take_record;
 use std::alloc::AllocError;
@@ -38,6 +38,6 @@ pub fn serve(heap: Global, input: &[u8]) -> Result<String, AllocError>
         return Ok(out);
     }
     let offset = bytes.len() - rest.len();
-    refuse(heap, &mut out, "--", Origin::Record, 15, Some(offset))?;
+    refuse(heap, &mut out, "--", Layer::Record, 15, Some(offset))?;
     Ok(out)
 }

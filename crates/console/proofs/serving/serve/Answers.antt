@@ -1,12 +1,12 @@
-use mathlib.Core.Path.{_≡_, refl, sym, ap, subst, _∙_}
-use Prim.Native.Nat.{ℕ, _-_}
+use mathlib.Core.Path.{refl, ap, subst}
+use Prim.Native.Nat.{ℕ, _-_, _<_}
 use mathlib.Core.List.{List}
-use borrow.Author.Needs.{needs}
+use borrow.Author.Tests.{false-eqb, true-eqb}
 use native.Mathlib.Omega.{arith}
 use lib.ListN.{length, length-append}
 use Rattle.std.specs.Of.String.{string-bytes}
 use Rattle.console.specs.Records.{all-bytes}
-use Rattle.console.specs.Serving.{So-far, desk-state}
+use Rattle.console.specs.Serving.{desk-state}
 use Rattle.console.specs.Session.{Served}
 use Rattle.console.specs.Taking.{meaning}
 use Rattle.console.proofs.Turns.{none-yet, one-more, rest-falls, ended-here, broken-off}
@@ -31,6 +31,14 @@ sub-offset c =
 
 pub returns : need.returns
 returns c =
+    let ne = false-eqb (length (c .loop-taken .rest .now)) 0 (c .if-is-empty .ensures tt) in
+    let some : 0 < length (c .loop-taken .rest .now) = omega arith in
     subst (λ (l : List ℕ). Served l (string-bytes (c .refuse .last .out))) (c .front-bytes .ensures)
     (broken-off (c .front-bytes .result .now) (c .loop-taken .rest .now) (string-bytes (c .loop-taken .out)) (string-bytes (c .refuse .last .out)) (desk-state (c .loop-taken .desk))
-      (length (c .front-bytes .result .now) - length (c .loop-taken .rest .now)) (c .loop-taken .inv) (c .in-rest .ensures tt) (search needs) refl (c .in-Continue-refuse .ensures tt))
+      (length (c .front-bytes .result .now) - length (c .loop-taken .rest .now)) (c .loop-taken .inv) (c .in-rest .ensures tt) some refl (c .in-Continue-refuse .ensures tt))
+
+pub returns-then-is-empty : need.returns-then-is-empty
+returns-then-is-empty c =
+    subst (λ (l : List ℕ). Served l (string-bytes (c .loop-taken .out))) (c .front-bytes .ensures)
+    (ended-here (c .front-bytes .result .now) (c .loop-taken .rest .now) (string-bytes (c .loop-taken .out)) (desk-state (c .loop-taken .desk)) (c .loop-taken .inv)
+      (c .in-rest .ensures tt) (true-eqb (length (c .loop-taken .rest .now)) 0 (c .if-is-empty .ensures tt)))
