@@ -81,7 +81,7 @@ meant-once s (Ok c) x z j m n =
     m .good (c .clauses) (c .conditions) (c .literals) (j .0) (j .1) ∙ sym (n .good (c .clauses) (c .conditions) (c .literals) (j .0) (j .1))
 meant-once s (Err f) x z j m n =
     let none : (a b d : ℕ) → length s ≤ 60000 → Good s a b d → ⊥ =
-      λ a b d short g. let o = one-answer s (Ok (record { clauses = a; conditions = b; literals = d })) (Err f) (short, g) j in let w : _≡_ {A = ℕ} 0 1 = cc in omega arith in
+    λ a b d short g. let o = one-answer s (Ok (record { clauses = a; conditions = b; literals = d })) (Err f) (short, g) j in let w : _≡_ {A = ℕ} 0 1 = cc in omega arith in
     m .refused none ∙ sym (n .refused none)
 
 judging-once : (t : List ℕ) (old a b : Sheet) (y z : Reply) → Judging t old y a → Judging t old z b → (y ≡ z) × (a ≡ b)
@@ -115,9 +115,10 @@ step-once st (show t) y z m n p q =
     (j .0, same-state m n (p .1 ∙ sym (q .1)) (j .1) (p .2 ∙ sym (q .2)))
 step-once st opening y z m n p q =
     let s : Sheet = joined (st .of-network) (st .of-show) in
-    let a = opens-once s (p .0 .answer) (q .0 .answer) (p .0 .opens) (q .0 .opens) in
-    (p .0 .reply ∙ ap answer-reply a ∙ sym (q .0 .reply),
-      same-state m n (p .1 ∙ sym (q .1)) (p .2 ∙ sym (q .2)) (p .0 .holds ∙ (λ i. opened (a i) s) ∙ sym (q .0 .holds)))
+    let a = opens-once s (p .0 .answer) (q .0 .answer) (p .0 .opens) (q .0 .opens) in (
+      p .0 .reply ∙ ap answer-reply a ∙ sym (q .0 .reply),
+      same-state m n (p .1 ∙ sym (q .1)) (p .2 ∙ sym (q .2)) (p .0 .holds ∙ (λ i. opened (a i) s) ∙ sym (q .0 .holds)),
+    )
 step-once st (asking k) y z m n p q =
     let a = asks-once (st .of-round) k (p .0 .answer) (q .0 .answer) (p .0 .asks) (q .0 .asks) in
     (p .0 .reply ∙ ap answer-reply a ∙ sym (q .0 .reply), p .1 ∙ sym (q .1))

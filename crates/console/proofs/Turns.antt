@@ -26,12 +26,13 @@ none-yet input st e = record { records = []; fitting = tt; whole = refl; session
 pub one-more : (input rest tail out after : List ℕ) (st next : State) (r : Record) → So-far input rest out st → Fitting r → rest ≡ bytes-of r ++ tail
     → Printed (mark r) out after (λ y. Step st r y next) → So-far input tail after next
 one-more input rest tail out after st next r s f e p = record {
-    records = s .records ++ (r ∷ []);
-    fitting = all-append Fitting (s .records) (r ∷ []) (s .fitting) (f, tt);
-    whole =
+  records = s .records ++ (r ∷ []);
+  fitting = all-append Fitting (s .records) (r ∷ []) (s .fitting) (f, tt);
+  whole =
       s .whole ∙ ap (λ (l : List ℕ). all-bytes (s .records) ++ l) e ∙ sym (append-assoc (all-bytes (s .records)) (bytes-of r) tail)
       ∙ ap (λ (l : List ℕ). l ++ tail) (joined-more bytes-of [] (s .records) r);
-    session = subst (λ (l : List ℕ). Session at-first (s .records ++ (r ∷ [])) l next) (sym (p .whole)) (session-more r (p .reply) (s .session) (p .fits)) }
+  session = subst (λ (l : List ℕ). Session at-first (s .records ++ (r ∷ [])) l next) (sym (p .whole)) (session-more r (p .reply) (s .session) (p .fits));
+}
 
 -- a record has bytes, so that the rest falls
 pub rest-falls : (r : Record) (rest tail : List ℕ) → rest ≡ bytes-of r ++ tail → length tail < length rest
@@ -43,9 +44,14 @@ rest-falls (asking n) rest tail e = omega (arith, ap length e)
 -- where the reading ends
 pub ended-here : (input rest out : List ℕ) (st : State) → So-far input rest out st → No-record rest → length rest ≡ 0 → Served input out
 ended-here input [] out st s n e = record {
-    records = s .records; rest = []; lines = out; last = st;
-    parsed = record { fitting = s .fitting; whole = s .whole; ended = n };
-    session = s .session; whole = sym (append-nil out) }
+  records = s .records;
+  rest = [];
+  lines = out;
+  last = st;
+  parsed = record { fitting = s .fitting; whole = s .whole; ended = n };
+  session = s .session;
+  whole = sym (append-nil out);
+}
 ended-here input (b ∷ bs) out st s n e = absurd (omega arith)
 
 pub broken-off : (input rest out after : List ℕ) (st : State) (offset : ℕ) → So-far input rest out st → No-record rest → 0 < length rest → offset ≡ length input - length rest
@@ -54,7 +60,11 @@ broken-off input [] out after st offset s n some at e = absurd (omega arith)
 broken-off input (b ∷ bs) out after st offset s n some at e =
     let l : offset ≡ length (all-bytes (s .records)) = omega (arith, ap length (s .whole), length-append (all-bytes (s .records)) (b ∷ bs)) in
     record {
-      records = s .records; rest = b ∷ bs; lines = out; last = st;
+      records = s .records;
+      rest = b ∷ bs;
+      lines = out;
+      last = st;
       parsed = record { fitting = s .fitting; whole = s .whole; ended = n };
       session = s .session;
-      whole = e ∙ ap (λ (k : ℕ). out ++ line (codes "--") (refused in-record 15 (k ∷ []))) l }
+      whole = e ∙ ap (λ (k : ℕ). out ++ line (codes "--") (refused in-record 15 (k ∷ []))) l;
+    }

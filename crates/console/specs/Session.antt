@@ -81,7 +81,7 @@ Step st (asking p) y next = Asking (st .of-round) p y × (next ≡ st)
 pub data Session : State → List Record → List ℕ → State → Type 0 where
   done : {st : State} → Session st [] [] st
   step : {st next last : State} {r : Record} {rs : List Record} {out : List ℕ} (y : Reply) → Step st r y next → Session next rs out last
-    → Session st (r ∷ rs) (line (mark r) y ++ out) last
+      → Session st (r ∷ rs) (line (mark r) y ++ out) last
 
 -- what is printed for a rest at this offset: nothing at the end of the input, else that no record begins there
 abbrev pub ending : ℕ → List ℕ → List ℕ

@@ -29,7 +29,13 @@ use text::TextSheet;
 use text::TextSource;
 
 // Judges the text of a sheet record. An accepted text takes the place of the one held.
-fn judge_sheet<'a>(heap: Global, out: &mut String, name: &str, bytes: &'a [u8], held: &mut TextSheet<'a>) -> Result<(), AllocError>
+fn judge_sheet<'a>(
+    heap: Global,
+    out: &mut String,
+    name: &str,
+    bytes: &'a [u8],
+    held: &mut TextSheet<'a>,
+) -> Result<(), AllocError>
     ensures { λ r. ⌜ made r (λ _. Printed (now (name .entry)) (string-bytes (now (out .entry))) (string-bytes (now (out .exit))) (λ y. Judging (now (bytes .entry)) (text-sheet (now (held .entry))) y (text-sheet (now (held .exit))))) ⌝ }
 {
     let sheet = TextSheet::new(heap, bytes)?;
@@ -61,7 +67,13 @@ fn refuse_call(heap: Global, out: &mut String, name: &str, e: Refusal) -> Result
 }
 
 // Opens the round on the two sheets joined, the network's first.
-fn open_round(heap: Global, out: &mut String, network: &TextSheet<'_>, show: &TextSheet<'_>, round: &mut Round) -> Result<(), AllocError>
+fn open_round(
+    heap: Global,
+    out: &mut String,
+    network: &TextSheet<'_>,
+    show: &TextSheet<'_>,
+    round: &mut Round,
+) -> Result<(), AllocError>
     ensures { λ r. ⌜ made r (λ _. Printed (codes "OP") (string-bytes (now (out .entry))) (string-bytes (now (out .exit))) (λ y. Opening (joined (text-sheet (now (network .entry))) (text-sheet (now (show .entry)))) y (round-sheet (now (round .exit))))) ⌝ }
 {
     let both = Joined {
@@ -100,7 +112,12 @@ impl<'a> Desk<'a> {
     }
 
     // Answers a record by one line.
-    pub(crate) fn answer(&mut self, heap: Global, out: &mut String, taken: Record<'a>) -> Result<(), AllocError>
+    pub(crate) fn answer(
+        &mut self,
+        heap: Global,
+        out: &mut String,
+        taken: Record<'a>,
+    ) -> Result<(), AllocError>
         ensures { λ r. ⌜ made r (λ _. Printed (mark (meaning (taken .entry))) (string-bytes (now (out .entry))) (string-bytes (now (out .exit))) (λ y. Step (desk-state (now (self .entry))) (meaning (taken .entry)) y (desk-state (now (self .exit))))) ⌝ }
     {
         match taken {

@@ -48,7 +48,12 @@ fn push_place(heap: Global, out: &mut String, place: Option<usize>) -> Result<()
 }
 
 // Adds the line of an answer: its mark, ` ok` and the numbers.
-pub(crate) fn accept(heap: Global, out: &mut String, mark: &str, answer: &[u16]) -> Result<(), AllocError>
+pub(crate) fn accept(
+    heap: Global,
+    out: &mut String,
+    mark: &str,
+    answer: &[u16],
+) -> Result<(), AllocError>
     ensures { λ r. ⌜ made r (λ _. string-bytes (now (out .exit)) ≡ string-bytes (now (out .entry)) ++ line (now (mark .entry)) (accepted (now (answer .entry)))) ⌝ }
 {
     out.push_str(mark)?;
@@ -60,7 +65,14 @@ pub(crate) fn accept(heap: Global, out: &mut String, mark: &str, answer: &[u16])
 }
 
 // Adds the line of a refusal: its mark, ` no`, where it comes from, its number, and the place or ban that it names.
-pub(crate) fn refuse(heap: Global, out: &mut String, mark: &str, layer: Layer, number: u8, place: Option<usize>) -> Result<(), AllocError>
+pub(crate) fn refuse(
+    heap: Global,
+    out: &mut String,
+    mark: &str,
+    layer: Layer,
+    number: u8,
+    place: Option<usize>,
+) -> Result<(), AllocError>
     ensures { λ r. ⌜ made r (λ _. string-bytes (now (out .exit)) ≡ string-bytes (now (out .entry)) ++ line (now (mark .entry)) (refused (layer-of layer) number (optional place))) ⌝ }
 {
     out.push_str(mark)?;

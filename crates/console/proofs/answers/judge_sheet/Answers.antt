@@ -18,8 +18,10 @@ returns-in-Continue-accept c =
         judged = c .in-Continue-sheet .ensures tt .0;
         meant = c .in-Continue-sheet .ensures tt .1;
         reply = ap verdict-reply v;
-        holds = ap (λ w. kept w (text-sheet (c .in-Continue-sheet .sheet)) (text-sheet (c .args .held .now))) v };
-      whole = c .in-Continue-accept .ensures tt }
+        holds = ap (λ w. kept w (text-sheet (c .in-Continue-sheet .sheet)) (text-sheet (c .args .held .now))) v;
+      };
+      whole = c .in-Continue-accept .ensures tt;
+    }
 
 pub returns-in-Err : need.returns-in-Err
 returns-in-Err c =
@@ -27,10 +29,11 @@ returns-in-Err c =
     printed-by (c .refuse .result) (c .args .name .now) (string-bytes (c .args .out .now)) (string-bytes (c .refuse .last .out))
     (refused in-text (c .number .result) (optional (c .place .result))) _
     (record {
-        verdict = c .in-Continue-sheet .sheet .verdict;
-        sheet = text-sheet (c .in-Continue-sheet .sheet);
-        judged = c .in-Continue-sheet .ensures tt .0;
-        meant = c .in-Continue-sheet .ensures tt .1;
-        reply = (λ i. refused in-text (c .number .ensures i) (optional (c .place .ensures i))) ∙ ap verdict-reply v;
-        holds = ap (λ w. kept w (text-sheet (c .in-Continue-sheet .sheet)) (text-sheet (c .args .held .now))) v })
+      verdict = c .in-Continue-sheet .sheet .verdict;
+      sheet = text-sheet (c .in-Continue-sheet .sheet);
+      judged = c .in-Continue-sheet .ensures tt .0;
+      meant = c .in-Continue-sheet .ensures tt .1;
+      reply = (λ i. refused in-text (c .number .ensures i) (optional (c .place .ensures i))) ∙ ap verdict-reply v;
+      holds = ap (λ w. kept w (text-sheet (c .in-Continue-sheet .sheet)) (text-sheet (c .args .held .now))) v;
+    })
     (c .refuse .ensures)

@@ -22,4 +22,4 @@ returns c =
     (string-bytes (c .args .out .now) ++ line (c .args .mark .now) (accepted (c .args .answer .now)))
     (c .push-str-3 .ensures .bytes)
     (accepted-line (string-bytes (c .args .out .now)) (string-bytes (c .push-str .last .self)) (string-bytes (c .push-str-2 .last .self)) (string-bytes (c .loop-n .out))
-      (c .args .mark .now) (c .args .answer .now) (c .in-Continue-push-str .ensures tt .bytes) (c .in-Continue-push-str-2 .ensures tt .bytes) (rw t at (c .loop-n .inv)))
+    (c .args .mark .now) (c .args .answer .now) (c .in-Continue-push-str .ensures tt .bytes) (c .in-Continue-push-str-2 .ensures tt .bytes) (rw t at (c .loop-n .inv)))

@@ -16,5 +16,5 @@ returns c =
     (string-bytes (c .args .out .now) ++ line (c .args .mark .now) (refused (layer-of (c .args .layer)) (c .args .number) (optional (c .args .place))))
     (c .push-str-4 .ensures .bytes)
     (refused-line (string-bytes (c .args .out .now)) (string-bytes (c .push-str .last .self)) (string-bytes (c .push-str-2 .last .self)) (string-bytes (c .push-str-3 .last .self))
-      (string-bytes (c .push-number .last .out)) (string-bytes (c .push-place .last .out)) (c .args .mark .now) (layer-of (c .args .layer)) (c .args .number) (optional (c .args .place))
-      (c .in-Continue-push-str .ensures tt .bytes) (c .in-Continue-push-str-2 .ensures tt .bytes) d n p)
+    (string-bytes (c .push-number .last .out)) (string-bytes (c .push-place .last .out)) (c .args .mark .now) (layer-of (c .args .layer)) (c .args .number) (optional (c .args .place))
+    (c .in-Continue-push-str .ensures tt .bytes) (c .in-Continue-push-str-2 .ensures tt .bytes) d n p)

@@ -13,7 +13,7 @@ use Rattle.console.proofs.Turns.{none-yet, one-more, rest-falls, ended-here, b
 use Rattle.console.proofs.serving.serve.Needs as need
 
 pub loop-taken-holds : need.loop-taken-holds
-loop-taken-holds c = 
+loop-taken-holds c =
     rw (c .new-out .ensures .bytes) (none-yet (c .front-bytes .result .now) (desk-state (c .in-Continue-desk .desk)) (c .in-Continue-desk .ensures tt))
 
 pub loop-taken-less : need.loop-taken-less
@@ -35,10 +35,10 @@ returns c =
     let some : 0 < length (c .loop-taken .rest .now) = omega arith in
     subst (λ (l : List ℕ). Served l (string-bytes (c .refuse .last .out))) (c .front-bytes .ensures)
     (broken-off (c .front-bytes .result .now) (c .loop-taken .rest .now) (string-bytes (c .loop-taken .out)) (string-bytes (c .refuse .last .out)) (desk-state (c .loop-taken .desk))
-      (length (c .front-bytes .result .now) - length (c .loop-taken .rest .now)) (c .loop-taken .inv) (c .in-rest .ensures tt) some refl (c .in-Continue-refuse .ensures tt))
+    (length (c .front-bytes .result .now) - length (c .loop-taken .rest .now)) (c .loop-taken .inv) (c .in-rest .ensures tt) some refl (c .in-Continue-refuse .ensures tt))
 
 pub returns-then-is-empty : need.returns-then-is-empty
 returns-then-is-empty c =
     subst (λ (l : List ℕ). Served l (string-bytes (c .loop-taken .out))) (c .front-bytes .ensures)
     (ended-here (c .front-bytes .result .now) (c .loop-taken .rest .now) (string-bytes (c .loop-taken .out)) (desk-state (c .loop-taken .desk)) (c .loop-taken .inv)
-      (c .in-rest .ensures tt) (true-eqb (length (c .loop-taken .rest .now)) 0 (c .if-is-empty .ensures tt)))
+    (c .in-rest .ensures tt) (true-eqb (length (c .loop-taken .rest .now)) 0 (c .if-is-empty .ensures tt)))
