@@ -1,24 +1,24 @@
 -- The good texts are those of the grammar whose clauses keep the limits.
 use mathlib.Core.Path.{_≡_, refl, sym, _∙_, ap, subst}
-use mathlib.Core.Logic.{_⊎_, inl, inr, ⊎-elim}
+use mathlib.Core.Logic.{inl, inr, ⊎-elim}
 use mathlib.Core.Bool.{Bool, true, false, cond}
 use mathlib.Core.List.{List, [], _∷_}
-use Prim.Native.Nat.{ℕ, zero, suc, _+_, _-_, _<_, _≤_, max}
+use Prim.Native.Nat.{ℕ, zero, suc, _+_, _-_, _<_, _≤_}
 use native.Mathlib.Numerals.{add-one}
 use native.Mathlib.Omega.{arith}
 use lib.Dec.{eqb}
-use lib.ListN.{length, take, drop, getD}
+use lib.ListN.{length, drop, getD}
 use borrow.Author.Tests.{eqb-true, eq-eqb}
 use Rattle.std.specs.shelf.Lists.{All, countBy}
 use Rattle.std.proofs.shelf.Elements.{all-weaker}
 use Rattle.std.proofs.shelf.Lists.{getD-past, take-all}
 use Rattle.std.proofs.shelf.Sums.{sumBy-take-le}
 use Rattle.std.proofs.shelf.Tests.{cases-bool, cases-lt, cases-eq}
-use Rattle.horn.specs.Sheets.{Clause, Distinct, Lawful-clause, top-of, literals}
+use Rattle.horn.specs.Sheets.{Distinct, Lawful-clause, top-of, literals}
 use Rattle.text.specs.Grammar.{digit, Digits, end, then, Number, number, NegLits, one, more, Basic, fact, rule, ban, Text, last, join, digits, numeral, neg-lits, inside, basic, text, Spells, clauses}
-use Rattle.text.specs.Judging.{Names, Negated, Begins, Too-great, Too-many, Limit, Faulty, Good, many}
+use Rattle.text.specs.Judging.{Negated, Begins, Too-great, Too-many, Good, many}
 use Rattle.text.specs.Limits.{lead-value, top-in}
-use Rattle.text.specs.Reading.{clauses-in, sheet-in}
+use Rattle.text.specs.Reading.{sheet-in}
 use Rattle.text.specs.Accepted.{Keeps-limits, Accepted-exactly}
 use Rattle.text.proofs.Numbers.{many-more, lead-is}
 use Rattle.text.proofs.Trees.{opens, letters, tops, apart, first-is-digit}

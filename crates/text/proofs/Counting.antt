@@ -1,16 +1,12 @@
 -- One byte more in the counts.
-use mathlib.Core.Path.{_≡_, refl, sym, _∙_, ap, subst}
-use mathlib.Core.Logic.{_⊎_, inl, inr, ⊎-elim}
-use mathlib.Core.Bool.{Bool, true, false, cond}
-use mathlib.Core.List.{List, [], _∷_}
+use mathlib.Core.Path.{_≡_}
+use mathlib.Core.List.{List}
 use Prim.Native.Nat.{ℕ, _+_, _<_, _≤_, max}
 use native.Mathlib.Omega.{arith}
-use lib.Dec.{eqb}
-use lib.ListN.{length, take, drop, getD}
-use borrow.Author.Tests.{eq-eqb, ne-eqb}
+use lib.ListN.{length, drop, getD}
+use borrow.Author.Tests.{ne-eqb}
 use Rattle.text.specs.declared.verdict.Counts.{Counts}
-use Rattle.text.specs.Judging.{many}
-use Rattle.text.specs.Limits.{lead-value, top-in, Counted}
+use Rattle.text.specs.Limits.{lead-value, Counted}
 use Rattle.text.proofs.Numbers.{many-more, top-more}
 
 module _ (s : List ℕ) (i : ℕ) (c : Counts) (within : i < length s) (h : Counted s i c) where

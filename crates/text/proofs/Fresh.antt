@@ -1,9 +1,9 @@
 -- A text of the grammar whose bodies have no condition twice has no fault 4.
 use mathlib.Core.Path.{_≡_, refl, sym, _∙_, ap, subst}
-use mathlib.Core.Logic.{_⊎_, inl, inr, ⊎-elim}
-use mathlib.Core.Bool.{Bool, true, false, cond, not, _&&_, _||_}
+use mathlib.Core.Logic.{⊎-elim}
+use mathlib.Core.Bool.{Bool, true, false, cond, not, _&&_}
 use mathlib.Core.List.{List, [], _∷_}
-use Prim.Native.Nat.{ℕ, zero, suc, _+_, _-_, _<_, _≤_}
+use Prim.Native.Nat.{ℕ, _+_, _≤_}
 use native.Mathlib.Omega.{arith}
 use lib.Dec.{eqb}
 use lib.ListN.{length, drop, getD, length-drop}
@@ -12,7 +12,7 @@ use Rattle.std.specs.shelf.Lists.{All}
 use Rattle.std.proofs.shelf.Lists.{drop-drop, getD-past}
 use Rattle.std.proofs.shelf.Tests.{cases-bool, cases-eq, and-parts, and-from, or-parts, or-from, or-left, or-right, not-true, not-from-false, both-ways}
 use Rattle.horn.specs.Sheets.{Distinct, any-of}
-use Rattle.text.specs.Grammar.{digit, Number, NegLits, one, more, Basic, fact, rule, ban, Text, last, join, numeral, neg-lits, inside, basic, text, value, conditions, clause, clauses}
+use Rattle.text.specs.Grammar.{digit, Number, NegLits, one, more, Basic, fact, rule, ban, Text, last, join, numeral, neg-lits, basic, text, value, conditions, clause, clauses}
 use Rattle.text.specs.Judging.{Names, Negated, Held, Repeats}
 use Rattle.text.specs.Limits.{lead-value}
 use Rattle.text.proofs.Bodies.{held-less, held-none, signed-next}

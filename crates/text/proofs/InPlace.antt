@@ -1,19 +1,19 @@
 -- What a text in place keeps.
 use mathlib.Core.Path.{_≡_, refl, sym, _∙_, ap, subst}
-use mathlib.Core.Logic.{_⊎_, inl, inr, ⊎-elim}
+use mathlib.Core.Logic.{inl, inr, ⊎-elim}
 use mathlib.Core.List.{List, [], _∷_, _++_}
-use Prim.Native.Nat.{ℕ, _+_, _-_, _<_, _≤_}
+use Prim.Native.Nat.{ℕ, _<_, _≤_}
 use native.Mathlib.Omega.{arith}
-use lib.ListN.{length, take, drop, getD}
+use lib.ListN.{length, take}
 use Rattle.std.specs.declared.result.Result.{Result}
 use Rattle.std.specs.declared.result.Result.the-variants.{Err}
 use Rattle.text.specs.declared.verdict.Counts.{Counts}
 use Rattle.text.specs.declared.verdict.Fault.{Fault}
 use Rattle.std.proofs.shelf.Lists.{take-all, append-nil, append-assoc, getD-past}
 use Rattle.std.proofs.shelf.Tests.{cases-lt}
-use Rattle.horn.specs.Sheets.{Sheet, top-of}
-use Rattle.text.specs.Grammar.{Digits, end, then, Number, number, NegLits, one, more, Basic, fact, rule, ban, Text, last, join, digits, numeral, neg-lits, inside, basic, text, Spells, Longest, clauses}
-use Rattle.text.specs.Judging.{Names, Repeats, Limit, Good}
+use Rattle.horn.specs.Sheets.{top-of}
+use Rattle.text.specs.Grammar.{Digits, end, then, Number, number, NegLits, one, more, Basic, fact, rule, ban, digits, numeral, neg-lits, inside, Longest, clauses}
+use Rattle.text.specs.Judging.{Repeats, Limit, Good}
 use Rattle.text.specs.Verdicts.{fault-number, fault-place, Refused, Judged, conditions-in}
 use Rattle.text.specs.Reading.{clauses-in, starts-in, sheet-in, Small, Meant}
 use Rattle.text.proofs.Meaning.{reads, one-meaning}

@@ -1,24 +1,23 @@
 -- The clauses of a good text are those of a lawful sheet.
 use mathlib.Core.Path.{_≡_, refl, sym, _∙_, ap, subst}
-use mathlib.Core.Logic.{_⊎_, inl, inr, ⊎-elim}
-use mathlib.Core.Bool.{Bool, true, false, false≢true, _||_}
+use mathlib.Core.Logic.{⊎-elim}
+use mathlib.Core.Bool.{true, false, false≢true}
 use mathlib.Core.List.{List, [], _∷_, _++_}
 use Prim.Native.Nat.{ℕ, zero, suc, _+_, _-_, _*_, _<_, _≤_, max}
 use native.Mathlib.Numerals.{add-one}
 use native.Mathlib.Omega.{arith}
 use lib.Dec.{eqb}
-use lib.ListN.{length, take, drop, getD}
+use lib.ListN.{length, drop, getD}
 use borrow.Author.Tests.{eqb-true, ne-eqb}
-use Rattle.std.specs.declared.option.Option.{Option}
 use Rattle.std.specs.declared.option.Option.the-variants.{Some, None}
 use Rattle.std.specs.shelf.Lists.{All}
 use Rattle.std.proofs.shelf.Lists.{append-assoc, getD-append-add, getD-append-left, getD-append-right, drop-at, drop-drop, length-append}
 use Rattle.std.proofs.shelf.Tests.{cases-lt, cases-eq, cases-bool}
-use Rattle.horn.specs.Sheets.{Clause, Sheet, Condition, Distinct, Lawful, Lawful-clause, any-of, greatest, top-of, outcome-number}
-use Rattle.text.specs.Grammar.{digit, first-digit, Digits, end, then, Number, number, NegLits, one, more, Basic, fact, rule, ban, Text, last, join, digits, numeral, neg-lits, inside, basic, text, value, value-from, conditions, clause, clauses}
-use Rattle.text.specs.Judging.{run-value, Names, Negated, Held, Repeats, Good}
+use Rattle.horn.specs.Sheets.{Sheet, Condition, Distinct, Lawful, Lawful-clause, any-of, greatest, top-of, outcome-number}
+use Rattle.text.specs.Grammar.{digit, first-digit, Digits, end, then, Number, number, NegLits, one, more, Basic, fact, rule, ban, Text, last, join, digits, numeral, neg-lits, basic, text, value, value-from, conditions, clause, clauses}
+use Rattle.text.specs.Judging.{run-value, Names, Negated, Repeats, Good}
 use Rattle.text.specs.Limits.{lead-value, top-in}
-use Rattle.text.specs.Reading.{clauses-in, sheet-in, Small}
+use Rattle.text.specs.Reading.{sheet-in, Small}
 use Rattle.text.proofs.Numbers.{at-drop, lead-is, lead-absent}
 use Rattle.text.proofs.Trees.{run-number, first-is-digit, first-low, tops}
 use Rattle.text.proofs.InPlace.{front-inside, small, meaning, repeats-none}

@@ -14,3 +14,4 @@ pub mod Fresh
 pub mod Accepted
 pub mod Bodies
 pub mod Stamps
+pub mod Worked

@@ -1,16 +1,14 @@
 -- The reader's states and the grammar are one.
-use mathlib.Core.Path.{_≡_, refl, sym, _∙_, ap, subst}
-use mathlib.Core.Bool.{Bool, true, false, cond}
-use mathlib.Core.List.{List, [], _∷_, _++_}
+use mathlib.Core.Path.{_≡_, refl, _∙_}
+use mathlib.Core.Bool.{false}
+use mathlib.Core.List.{List, _∷_}
 use Prim.Native.Nat.{ℕ, suc, _+_, _<_, _≤_}
-use lib.Dec.{eqb}
-use lib.ListN.{length, take, drop, getD}
+use lib.ListN.{length, drop, getD}
 use Rattle.std.proofs.shelf.Lists.{drop-more, drop-all}
-use Rattle.std.specs.declared.option.Option.{Option}
 use Rattle.std.specs.declared.option.Option.the-variants.{Some, None}
 use Rattle.text.specs.declared.states.State.{State}
 use Rattle.text.specs.declared.states.State.the-variants.{Start, Literal, Negated, NegFirst, NegMore, PosFirst, PosMore, Done}
-use Rattle.text.specs.Grammar.{digit, first-digit, Digits, end, then, Number, number, NegLits, one, more, Basic, fact, rule, ban, Text, last, join, digits, numeral, neg-lits, inside, basic, text, Spells, Outside, Viable, Longest}
+use Rattle.text.specs.Grammar.{Digits, end, then, Number, number, NegLits, one, more, Basic, fact, rule, ban, Text, last, join, digits, numeral, neg-lits, inside, text}
 use Rattle.text.specs.States.{next, on, reach, final, accepts}
 
 -- Complete: every text of the grammar is read. F is anything that goes on from state to state as the reader does.

@@ -1,16 +1,14 @@
 -- What stands in the bytes of a text of the grammar is what the text means.
-use mathlib.Core.Path.{_≡_, refl, sym, _∙_, ap, subst}
-use mathlib.Core.Logic.{_⊎_, inl, inr, ⊎-elim}
-use mathlib.Core.Bool.{Bool, true, false, cond}
+use mathlib.Core.Path.{_≡_, refl, sym, _∙_, ap}
+use mathlib.Core.Bool.{true, false}
 use mathlib.Core.List.{List, [], _∷_, _++_}
-use Prim.Native.Nat.{ℕ, _+_}
+use Prim.Native.Nat.{ℕ}
 use lib.Dec.{eqb}
 use Rattle.std.proofs.shelf.Lists.{append-nil}
 use Rattle.std.specs.declared.option.Option.{Option}
-use Rattle.std.specs.declared.option.Option.the-variants.{Some, None}
+use Rattle.std.specs.declared.option.Option.the-variants.{Some}
 use Rattle.horn.specs.Sheets.{Clause}
-use Rattle.text.specs.Grammar.{digit, first-digit, Digits, end, then, Number, number, NegLits, one, more, Basic, fact, rule, ban, Text, last, join, digits, numeral, neg-lits, inside, basic, text, value, conditions, clause, clauses, Spells}
-use Rattle.text.specs.Limits.{lead-value}
+use Rattle.text.specs.Grammar.{digit, Digits, end, then, Number, number, NegLits, one, more, Basic, fact, rule, ban, Text, last, join, digits, numeral, neg-lits, inside, basic, text, value, conditions, clause, clauses, Spells}
 use Rattle.text.specs.Reading.{body-in, outcome-in, clause-in, clauses-in}
 use Rattle.text.proofs.Trees.{apart, first-is-digit, lead-number}
 

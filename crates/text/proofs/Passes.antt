@@ -1,9 +1,9 @@
 -- What judging answers, from the reader's two passes.
 use mathlib.Core.Path.{_≡_, refl, sym, _∙_, ap, subst}
-use mathlib.Core.Logic.{_⊎_, inl, inr, ⊎-elim}
-use mathlib.Core.Bool.{Bool, true, false}
-use mathlib.Core.List.{List, [], _∷_, _++_}
-use Prim.Native.Nat.{ℕ, _+_, _<_, _≤_, max}
+use mathlib.Core.Logic.{inl, inr, ⊎-elim}
+use mathlib.Core.Bool.{true, false}
+use mathlib.Core.List.{List, [], _++_}
+use Prim.Native.Nat.{ℕ, _<_, _≤_}
 use native.Mathlib.Omega.{arith}
 use lib.Dec.{eqb}
 use Rattle.std.specs.shelf.Lists.{countBy}
@@ -13,9 +13,8 @@ use Rattle.std.proofs.shelf.Tests.{cases-order}
 use Rattle.text.specs.declared.verdict.Counts.{Counts}
 use Rattle.text.specs.declared.verdict.Fault.{Fault}
 use Rattle.text.specs.declared.states.State.the-variants.{Start}
-use Rattle.text.specs.Grammar.{Text, Spells, Outside, Longest, clauses}
 use Rattle.text.specs.States.{reach, accepts}
-use Rattle.text.specs.Judging.{Limit, Faulty, Reported, Good}
+use Rattle.text.specs.Judging.{Limit, Reported, Good}
 use Rattle.text.specs.Limits.{Counted, Clear, First, top-in}
 use Rattle.text.specs.Verdicts.{Refused, fault-number, fault-place}
 use Rattle.text.proofs.Sound.{sound, outside, longest, only}

@@ -1,13 +1,12 @@
 -- Judging has one answer.
-use mathlib.Core.Path.{_≡_, refl, sym, _∙_, ap, subst}
-use mathlib.Core.Logic.{_⊎_, inl, inr, ⊎-elim}
-use mathlib.Core.List.{List, [], _∷_}
+use mathlib.Core.Path.{_≡_, refl, sym, _∙_, ap}
+use mathlib.Core.Logic.{⊎-elim}
+use mathlib.Core.List.{List}
 use mathlib.Core.Bool.{cond}
 use lib.Dec.{eqb}
-use Prim.Native.Nat.{ℕ, _+_, _<_, _≤_}
+use Prim.Native.Nat.{ℕ, _≤_}
 use native.Mathlib.Omega.{arith}
 use lib.ListN.{length}
-use Rattle.std.specs.declared.result.Result.{Result}
 use Rattle.std.specs.declared.result.Result.the-variants.{Ok, Err}
 use Rattle.horn.specs.Sheets.{top-of, literals}
 use Rattle.text.specs.Grammar.{clauses}
@@ -18,7 +17,7 @@ use Rattle.text.specs.declared.verdict.Counts.{Counts}
 use Rattle.text.specs.declared.verdict.Fault.{Fault}
 use Rattle.text.specs.declared.verdict.Fault.the-variants.{TooLong, Outside, TooGreat, Repeated, TooMany}
 use Rattle.text.specs.Judging.{Reported, Good}
-use Rattle.text.specs.Verdicts.{fault-number, fault-place, Refused, Judged, One-answer}
+use Rattle.text.specs.Verdicts.{fault-number, fault-place, Refused, One-answer}
 
 -- a fault is known by its number and its place
 fault-back : ℕ → Option ℕ → Fault

@@ -3,17 +3,17 @@ use mathlib.Core.Path.{_≡_, refl, sym, _∙_, ap, subst}
 use mathlib.Core.Logic.{_⊎_, inl, inr, ⊎-elim}
 use mathlib.Core.Bool.{Bool, true, false, cond, false≢true, true≢false}
 use mathlib.Core.List.{List, [], _∷_, _++_}
-use Prim.Native.Nat.{ℕ, zero, suc, _+_, _<_, _≤_}
+use Prim.Native.Nat.{ℕ, zero, suc, _≤_}
 use native.Mathlib.Omega.{arith}
 use borrow.Author.Tests.{eqb-true}
 use lib.Dec.{eqb}
-use lib.ListN.{length, take, drop, getD}
+use lib.ListN.{length, take}
 use Rattle.std.specs.declared.option.Option.{Option}
 use Rattle.std.specs.declared.option.Option.the-variants.{Some, None}
 use Rattle.text.specs.declared.states.State.{State}
 use Rattle.text.specs.declared.states.State.the-variants.{Start, Literal, Negated, NegFirst, NegMore, PosFirst, PosMore, Done}
-use Rattle.text.specs.Grammar.{digit, first-digit, Digits, end, then, Number, number, NegLits, one, more, Basic, fact, rule, ban, Text, last, join, digits, numeral, neg-lits, inside, basic, text, Spells, Outside, Viable, Longest}
-use Rattle.text.specs.States.{next, on, reach, final, accepts}
+use Rattle.text.specs.Grammar.{digit, first-digit, Digits, end, then, Number, number, one, more, Basic, fact, rule, ban, Text, last, join, digits, numeral, inside, text, Spells, Outside, Longest}
+use Rattle.text.specs.States.{next, on, reach, accepts}
 use Rattle.text.proofs.Machine.{texts}
 
 -- one literal more in front

@@ -1,16 +1,14 @@
 -- The table of stamps, one byte further on.
 use mathlib.Core.Path.{_≡_, refl, sym, _∙_, ap, subst}
-use mathlib.Core.Logic.{_⊎_, inl, inr, ⊎-elim, _≢_}
-use mathlib.Core.Bool.{cond}
+use mathlib.Core.Logic.{⊎-elim, _≢_}
 use mathlib.Core.List.{List}
-use Prim.Native.Nat.{ℕ, zero, suc, _+_, _-_, _<_, _≤_}
+use Prim.Native.Nat.{ℕ, zero, suc, _+_, _<_, _≤_}
 use native.Mathlib.Omega.{arith}
-use lib.Dec.{eqb}
 use lib.ListN.{length, drop, getD, set, replicate, length-set}
 use lib.Seq.{getD-set-same, getD-set-other}
 use borrow.Author.Tests.{ne-eqb}
 use Rattle.std.proofs.shelf.Tests.{cases-eq, cases-lt}
-use Rattle.text.specs.Judging.{run-value, Names, Negated, Held, many, Too-great}
+use Rattle.text.specs.Judging.{run-value, Names, Negated, many, Too-great}
 use Rattle.text.specs.Limits.{Reads, Stamped}
 use Rattle.text.proofs.Numbers.{many-more}
 use Rattle.text.proofs.Bodies.{held-less, held-more, held-here, held-none}

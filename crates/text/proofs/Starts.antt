@@ -1,7 +1,7 @@
 -- The places where the clauses of a text start.
 use mathlib.Core.Path.{_≡_, refl, sym, _∙_, ap, subst}
-use mathlib.Core.Logic.{_⊎_, inl, inr, ⊎-elim}
-use mathlib.Core.Bool.{Bool, true, false, cond}
+use mathlib.Core.Logic.{⊎-elim}
+use mathlib.Core.Bool.{true, false}
 use mathlib.Core.List.{List, [], _∷_, _++_}
 use Prim.Native.Nat.{ℕ, zero, suc, _+_, _-_, _<_, _≤_}
 use native.Mathlib.Omega.{arith}
@@ -12,11 +12,11 @@ use Rattle.std.specs.Finite.{nth}
 use Rattle.std.specs.declared.option.Option.{Option}
 use Rattle.std.specs.declared.option.Option.the-variants.{Some, None}
 use Rattle.std.proofs.shelf.Lists.{drop-drop, append-assoc, length-append}
+use Rattle.std.proofs.shelf.Maps.{nth-getD, nth-past}
 use Rattle.std.proofs.shelf.Tests.{cases-bool}
 use Rattle.horn.specs.Sheets.{Clause, clause-at}
-use Rattle.horn.proofs.Places.{nth-beyond}
 use Rattle.text.proofs.Scan.{starts-open}
-use Rattle.text.specs.Reading.{clause-in, clauses-in, starts-in, sheet-in, Opened, Opens-at}
+use Rattle.text.specs.Reading.{clause-in, clauses-in, starts-in, sheet-in, Opened}
 
 pub same-length : (i : ℕ) (s : List ℕ) → length (starts-in i s) ≡ length (clauses-in s)
 same-length i [] = refl
@@ -54,18 +54,13 @@ opened s (suc i) o l e =
     let h : Starts s o (nth (clauses-in s) i) = subst (λ x. Starts s x (nth (clauses-in s) i)) (sym (ap (nth (starts-in 0 s)) f) ∙ e) (starts s s 0 refl i) in
     opened-at s (suc i) o (nth (clauses-in s) i) h (λ k. refl)
 
-nth-at : (xs : List ℕ) (k d : ℕ) → k < length xs → nth xs k ≡ Some (getD xs k d)
-nth-at [] k d h = absurd (omega arith)
-nth-at (x ∷ xs) zero d h = refl
-nth-at (x ∷ xs) (suc k) d h = nth-at xs k d (omega arith)
-
 -- the same for places that are kept in a list
 module _ (s xs : List ℕ) (kept : xs ≡ starts-in 0 s) (i : ℕ) (l : 0 < i) where
   pub kept-none : false ≡ ltb (i - 1) (length xs) → Opened s i None
-  kept-none e = opened s i None l (sym (ap (λ ys. nth ys (i - 1)) kept) ∙ nth-beyond xs (i - 1) (ltb-false (i - 1) (length xs) (sym e)))
+  kept-none e = opened s i None l (sym (ap (λ ys. nth ys (i - 1)) kept) ∙ nth-past xs (i - 1) (ltb-false (i - 1) (length xs) (sym e)))
 
   pub kept-some : (p : ℕ) → true ≡ ltb (i - 1) (length xs) → p ≡ getD xs (i - 1) p → Opened s i (Some p)
-  kept-some p e f = opened s i (Some p) l (sym (ap (λ ys. nth ys (i - 1)) kept) ∙ (nth-at xs (i - 1) p (ltb-true (i - 1) (length xs) (sym e)) ∙ ap Some (sym f)))
+  kept-some p e f = opened s i (Some p) l (sym (ap (λ ys. nth ys (i - 1)) kept) ∙ (nth-getD xs (i - 1) p (ltb-true (i - 1) (length xs) (sym e)) ∙ ap Some (sym f)))
 
 -- one sign ( more is kept
 pub kept-more : (s : List ℕ) (p : ℕ) (xs ys : List ℕ) → p < length s → getD s p 0 ≡ 40 → xs ++ starts-in p (drop p s) ≡ starts-in 0 s → ys ≡ xs ++ p ∷ [] → ys ++ starts-in (p + 1) (drop (p + 1) s) ≡ starts-in 0 s

@@ -5,34 +5,41 @@
 use mathlib.Core.Path.{_≡_}
 use mathlib.Core.Bool.{Bool, true, false, cond}
 use mathlib.Core.List.{List, [], _∷_, _++_}
-use Prim.Native.Nat.{ℕ, _+_, _-_, _*_, _<_, _≤_}
+use Prim.Native.Nat.{ℕ, _+_, _-_, _*_, _≤_}
 use lib.Dec.{leb}
 use lib.ListN.{length, take}
 use Rattle.std.specs.declared.option.Option.the-variants.{Some, None}
 use Rattle.horn.specs.Sheets.{Clause}
 
+-- the byte is a digit, 0 to 9
 abbrev pub digit : ℕ → Bool
 digit b = cond (leb 48 b) (leb b 57) false
 
+-- the byte is a digit that a number may begin with, 1 to 9
 abbrev pub first-digit : ℕ → Bool
 first-digit b = cond (leb 49 b) (leb b 57) false
 
+-- any count of digits
 pub data Digits : Type 0 where
   end : Digits
   then : (b : ℕ) → digit b ≡ true → Digits → Digits
 
+-- a number without leading zero
 pub data Number : Type 0 where
   number : (b : ℕ) → first-digit b ≡ true → Digits → Number
 
+-- the negative literals of a clause, at least one
 pub data NegLits : Type 0 where
   one : Number → NegLits
   more : Number → NegLits → NegLits
 
+-- a clause
 pub data Basic : Type 0 where
   fact : Number → Basic
   rule : NegLits → Number → Basic
   ban : NegLits → Basic
 
+-- clauses, at least one
 pub data Text : Type 0 where
   last : Basic → Text
   join : Basic → Text → Text
@@ -62,7 +69,7 @@ abbrev pub text : Text → List ℕ → List ℕ
 text (last c) s = basic c s
 text (join c t) s = basic c (38 ∷ text t s)
 
--- What each means.
+-- What each means: the value of digits after others with the value v, the number, the body, the clause, the clauses.
 abbrev pub value-from : ℕ → Digits → ℕ
 value-from v end = v
 value-from v (then b d ds) = value-from (10 * v + (b - 48)) ds
@@ -87,6 +94,7 @@ clauses (join c t) = clause c ∷ clauses t
 abbrev pub Spells : Text → List ℕ → Type 0
 Spells t s = text t [] ≡ s
 
+-- the bytes are no text of the grammar
 abbrev pub Outside : List ℕ → Type 0
 Outside s = (t : Text) → Spells t s → ⊥
 

@@ -1,5 +1,4 @@
 -- The sheet of a text in place, and that a source may mean it.
-use Prim.Native.Nat.{ℕ}
 use denote.Ref.{now}
 use Rattle.horn.specs.Sheets.{Sheet}
 use Rattle.horn.specs.Sources.{Lawful-source}
@@ -12,5 +11,6 @@ use Rattle.text.specs.Reading.{sheet-in}
 abbrev pub text-sheet : TextSheet → Sheet
 text-sheet t = sheet-in (conditions-in (t .verdict)) (now (t .bytes))
 
+-- it has at most 1,000 conditions, at most 65,535 clauses, and only lawful ones
 pub text-lawful : (t : TextSheet) → Lawful-source (text-sheet t)
-text-lawful t = record { few-conditions = t .low; few-clauses = t .few; lawful = lawful-tested (text-sheet t) .0 (t .lawful) }
+text-lawful t = record { few-conditions = t .low; few-clauses = t .few; lawful = lawful-tested (text-sheet t) .0 (t .proper) }

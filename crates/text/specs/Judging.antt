@@ -1,7 +1,7 @@
 -- Judging a text: what a good one is, and which fault of a bad one is reported.
 -- Places are counted in bytes from 0. 126 is ~, 80 is P, 40 is (.
 use mathlib.Core.Path.{_≡_}
-use mathlib.Core.Bool.{Bool, true, false, cond}
+use mathlib.Core.Bool.{true, cond}
 use mathlib.Core.List.{List, [], _∷_}
 use mathlib.Core.Logic.{_⊎_}
 use Prim.Native.Nat.{ℕ, _+_, _-_, _*_, _<_, _≤_}

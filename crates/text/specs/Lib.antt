@@ -6,3 +6,4 @@ pub mod States
 pub mod Limits
 pub mod Reading
 pub mod InPlace
+pub mod Examples

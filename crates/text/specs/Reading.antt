@@ -1,6 +1,6 @@
 -- The clauses of a text as they stand in its bytes. proofs/Meaning.antt: on a text of the grammar they are its clauses.
 use mathlib.Core.Path.{_≡_}
-use mathlib.Core.Bool.{Bool, true, false, cond}
+use mathlib.Core.Bool.{Bool, false, cond}
 use mathlib.Core.List.{List, [], _∷_}
 use Prim.Native.Nat.{ℕ, _+_, _<_, _≤_}
 use lib.Dec.{eqb}

@@ -26,5 +26,5 @@ pub struct TextSheet<'a> {
     ghost placed: { vec-items starts ≡ starts-in 0 (held bytes) },
     ghost low: { conditions-in verdict ≤ 1000 },
     ghost few: { length (clauses-in (held bytes)) ≤ 65535 },
-    ghost lawful: { lawful (sheet-in (conditions-in verdict) (held bytes)) ≡ true },
+    ghost proper: { lawful (sheet-in (conditions-in verdict) (held bytes)) ≡ true },
 }

@@ -1,6 +1,7 @@
 // Judging a text.
 ghost use Rattle.text.specs.Verdicts.{Judged, One-answer};
 ghost use Rattle.text.specs.Accepted.{Accepted-exactly, One-meaning};
+ghost use Rattle.text.specs.Examples.{Worked-texts};
 use crate::limits::Reader;
 use crate::states::form;
 use crate::verdict::Counts;
@@ -43,6 +44,13 @@ pub fn accepted_stands() -> u8
 // The bytes of a text fix its clauses.
 pub fn one_meaning_stands() -> u8
     ensures { λ _. ⌜ One-meaning ⌝ }
+{
+    0
+}
+
+// Some texts and what judging answers of them.
+pub fn worked_texts_stand() -> u8
+    ensures { λ _. ⌜ Worked-texts ⌝ }
 {
     0
 }

@@ -11,5 +11,6 @@ pub use judging::accepted_stands;
 pub use judging::judge;
 pub use judging::judged_once;
 pub use judging::one_meaning_stands;
+pub use judging::worked_texts_stand;
 pub use verdict::Counts;
 pub use verdict::Fault;

@@ -1,7 +1,7 @@
 // The limits of a text, place by place, whatever its grammar.
 ghost use mathlib.Core.Path.{_≡_};
 ghost use mathlib.Core.Bool.{true};
-ghost use Prim.Native.Nat.{ℕ, _+_, _<_, _≤_, min, max};
+ghost use Prim.Native.Nat.{_+_, _<_, _≤_, min, max};
 ghost use lib.ListN.{length, getD, drop};
 ghost use Rattle.std.specs.Orderings.{When};
 ghost use Rattle.text.specs.Grammar.{digit};
@@ -17,7 +17,8 @@ pub(crate) struct Reader<'a> {
 }
 
 fn is_digit(b: u8) -> bool
-    ensures { λ r. ⌜ r ≡ digit b ⌝ ∗ ⌜ (r ≡ true → (48 ≤ b) × (b ≤ 57)) ⌝ }
+    ensures value { λ r. ⌜ r ≡ digit b ⌝ }
+    ensures range { λ r. ⌜ (r ≡ true → (48 ≤ b) × (b ≤ 57)) ⌝ }
 {
     match b as char {
         '0'..='9' => true,
@@ -135,7 +136,9 @@ impl Reader<'_> {
 
     // Whether clause 2,001 or literal 8,001 begins at `i`.
     fn too_many(&self, i: usize, clauses: u16, literals: u16) -> bool
-        requires { ⌜ i < length (now (now self .bytes)) ⌝ ∗ ⌜ clauses ≡ many 40 (now (now self .bytes)) i ⌝ ∗ ⌜ literals ≡ many 80 (now (now self .bytes)) i ⌝ }
+        requires within { ⌜ i < length (now (now self .bytes)) ⌝ }
+        requires clauses_are { ⌜ clauses ≡ many 40 (now (now self .bytes)) i ⌝ }
+        requires literals_are { ⌜ literals ≡ many 80 (now (now self .bytes)) i ⌝ }
         ensures { λ r. ⌜ When r (Too-many (now (now (self .entry) .bytes)) i) (Too-many (now (now (self .entry) .bytes)) i → ⊥) ⌝ }
     {
         match self.bytes[i] as char {
@@ -153,8 +156,12 @@ impl Reader<'_> {
 
     // The greater of `top` and the number of the condition at `i`.
     pub(crate) fn raised(&self, top: u16, i: usize) -> u16
-        requires { ⌜ i < length (now (now self .bytes)) ⌝ ∗ ⌜ getD (now (now self .bytes)) i 0 ≡ 80 ⌝ ∗ ⌜ (Too-great (now (now self .bytes)) i → ⊥) ⌝ ∗ ⌜ top ≤ 1000 ⌝ }
-        ensures { λ r. ⌜ r ≡ max top (lead-value (drop (i + 1) (now (now (self .entry) .bytes)))) ⌝ ∗ ⌜ r ≤ 1000 ⌝ }
+        requires within { ⌜ i < length (now (now self .bytes)) ⌝ }
+        requires letter { ⌜ getD (now (now self .bytes)) i 0 ≡ 80 ⌝ }
+        requires small { ⌜ (Too-great (now (now self .bytes)) i → ⊥) ⌝ }
+        requires low { ⌜ top ≤ 1000 ⌝ }
+        ensures value { λ r. ⌜ r ≡ max top (lead-value (drop (i + 1) (now (now (self .entry) .bytes)))) ⌝ }
+        ensures bound { λ r. ⌜ r ≤ 1000 ⌝ }
     {
         match self.condition(i) {
             Some(n) => top.max(n),
@@ -164,7 +171,10 @@ impl Reader<'_> {
 
     // The counts past the byte at `i`.
     fn noted(&self, c: Counts, i: usize) -> Counts
-        requires { ⌜ i < length (now (now self .bytes)) ⌝ ∗ ⌜ i < 60000 ⌝ ∗ ⌜ (Too-great (now (now self .bytes)) i → ⊥) ⌝ ∗ ⌜ Counted (now (now self .bytes)) i c ⌝ }
+        requires within { ⌜ i < length (now (now self .bytes)) ⌝ }
+        requires short { ⌜ i < 60000 ⌝ }
+        requires small { ⌜ (Too-great (now (now self .bytes)) i → ⊥) ⌝ }
+        requires counted { ⌜ Counted (now (now self .bytes)) i c ⌝ }
         ensures { λ r. ⌜ Counted (now (now (self .entry) .bytes)) (i + 1) r ⌝ }
     {
         match self.bytes[i] as char {
@@ -184,7 +194,8 @@ impl Reader<'_> {
 
     // The first fault of the limits before `end`, or the counts.
     pub(crate) fn limits(&self, end: usize) -> Result<Counts, Fault>
-        requires { ⌜ end ≤ length (now (now self .bytes)) ⌝ ∗ ⌜ end ≤ 60000 ⌝ }
+        requires within { ⌜ end ≤ length (now (now self .bytes)) ⌝ }
+        requires short { ⌜ end ≤ 60000 ⌝ }
         ensures { λ r. ⌜ Limits (now (now (self .entry) .bytes)) end r ⌝ }
     {
         let mut counts = Counts {

@@ -70,7 +70,8 @@ fn ended(state: State) -> bool
 
 // How many bytes the longest viable beginning has, and whether the text is one of the grammar.
 pub(crate) fn form(text: &[u8]) -> (usize, bool)
-    ensures { λ r. ⌜ r .0 ≡ reach State.Start (now (text .entry)) ⌝ ∗ ⌜ r .1 ≡ accepts State.Start (now (text .entry)) ⌝ }
+    ensures far { λ r. ⌜ r .0 ≡ reach State.Start (now (text .entry)) ⌝ }
+    ensures inside { λ r. ⌜ r .1 ≡ accepts State.Start (now (text .entry)) ⌝ }
 {
     let mut state = State::Start;
     let mut i = 0;

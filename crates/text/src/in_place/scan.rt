@@ -14,7 +14,8 @@ use std::alloc::Global;
 
 // The places of the signs (, of which there are `count`.
 pub(crate) fn starts_of(heap: Global, s: &[u8], count: u16) -> Result<Vec<u16>, AllocError>
-    requires { ⌜ length (now s) ≤ 60000 ⌝ ∗ ⌜ count ≡ length (starts-in 0 (now s)) ⌝ }
+    requires short { ⌜ length (now s) ≤ 60000 ⌝ }
+    requires counted { ⌜ count ≡ length (starts-in 0 (now s)) ⌝ }
     ensures { λ r. ⌜ made r (λ v. vec-items v ≡ starts-in 0 (now (s .entry))) ⌝ }
 {
     let mut starts = Vec::with_capacity(heap, count as usize)?;

@@ -8,7 +8,7 @@ use Rattle.text.proofs.Lawfulness.{low, lawful}
 use Rattle.text.proofs.in_place.TextSheet.new.Needs as need
 
 pub starts-of-requires : need.starts-of-requires
-starts-of-requires c κs = let j = c .in-Ok .ensures tt in (j .0, counted (c .args .text .now) _ _ _ (j .1))
+starts-of-requires c κs = let j = c .in-Ok .ensures tt in record { short = j .0; counted = counted (c .args .text .now) _ _ _ (j .1) }
 
 pub ghost-result : need.ghost-result
 ghost-result c =

@@ -1,10 +1,10 @@
 use native.Mathlib.Omega.{arith}
-use mathlib.Core.Path.{_≡_, sym, _∙_, ap, refl}
-use mathlib.Core.Bool.{true, false}
+use mathlib.Core.Path.{_≡_, sym, _∙_, ap}
+use mathlib.Core.Bool.{false}
 use Prim.Native.Nat.{_+_, _-_}
-use lib.ListN.{drop, length}
+use lib.ListN.{drop}
 use mathlib.Core.List.{_∷_}
-use Rattle.std.specs.declared.option.Option.the-variants.{Some, None}
+use Rattle.std.specs.declared.option.Option.the-variants.{Some}
 use Rattle.text.specs.Limits.{lead-value}
 use Rattle.horn.specs.Sources.{at-place}
 use Rattle.text.specs.Reading.{body-in}
@@ -27,7 +27,7 @@ pub returns-then-k-eq1 : need.returns-then-k-eq1
 returns-then-k-eq1 c =
     let s = c .args .s .now in
     let p = c .loop-p .p in
-    let z : c .raised .result ≡ lead-value (drop (p + 1) s) = omega (arith, c .raised .ensures .0) in
+    let z : c .raised .result ≡ lead-value (drop (p + 1) s) = omega (arith, c .raised .ensures .value) in
     let b = body-negated s p (c .loop-p-test .taken) (c .in-P .is) in
     let e : at-place (lead-value (drop (p + 1) s) ∷ body-in false (drop (p + 1) s)) (c .loop-p .k) ≡ Some (lead-value (drop (p + 1) s)) = place-one (lead-value (drop (p + 1) s)) (body-in false (drop (p + 1) s)) (c .loop-p .k) (c .if-k-eq1 .taken) in
     ap Some z ∙ (sym e ∙ (ap (λ x. at-place x (c .loop-p .k)) (sym b) ∙ (ap (λ n. at-place (body-in n (drop p s)) (c .loop-p .k)) (sym (c .if-neg .taken)) ∙ c .loop-p .inv .0)))

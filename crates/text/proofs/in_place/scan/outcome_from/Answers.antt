@@ -1,6 +1,5 @@
 use native.Mathlib.Omega.{arith}
-use mathlib.Core.Path.{_≡_, sym, _∙_, ap, refl}
-use mathlib.Core.Bool.{true, false}
+use mathlib.Core.Path.{_≡_, sym, _∙_, ap}
 use lib.ListN.{drop}
 use Prim.Native.Nat.{_+_}
 use Rattle.text.specs.Limits.{lead-value}
@@ -20,7 +19,7 @@ pub returns-then-not-neg : need.returns-then-not-neg
 returns-then-not-neg c =
     let s = c .args .s .now in
     let p = c .loop-p .p in
-    let z : c .raised .result ≡ lead-value (drop (p + 1) s) = omega (arith, c .raised .ensures .0) in
+    let z : c .raised .result ≡ lead-value (drop (p + 1) s) = omega (arith, c .raised .ensures .value) in
     z ∙ ap outcome-number (sym (outcome-letter s p (c .loop-p-test .taken) (c .in-P .is)) ∙ (sym (ap (λ b. outcome-in b (drop p s)) (c .if-not-neg .taken)) ∙ c .loop-p .inv))
 
 pub loop-p-again : need.loop-p-again

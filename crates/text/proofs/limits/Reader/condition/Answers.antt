@@ -1,9 +1,7 @@
-use borrow.Author.Needs.{needs}
 use native.Mathlib.Omega.{arith}
-use mathlib.Core.Path.{_≡_, sym, _∙_, ap}
-use mathlib.Core.Bool.{true, false, false≢true}
-use Prim.Native.Nat.{_<_, _≤_, _+_}
-use lib.ListN.{length, getD}
+use mathlib.Core.Path.{sym, _∙_, ap}
+use mathlib.Core.Bool.{false≢true}
+use Prim.Native.Nat.{_+_}
 use Rattle.std.proofs.shelf.Lists.{getD-past}
 use Rattle.text.specs.Grammar.{first-digit}
 use Rattle.text.proofs.limits.Reader.condition.Needs as need

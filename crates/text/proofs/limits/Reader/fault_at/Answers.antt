@@ -1,6 +1,6 @@
 use native.Mathlib.Omega.{arith}
-use mathlib.Core.Path.{_≡_, refl}
-use mathlib.Core.Logic.{_⊎_, inl, inr, ⊎-elim}
+use mathlib.Core.Path.{refl}
+use mathlib.Core.Logic.{inr, ⊎-elim}
 use Rattle.text.proofs.limits.Reader.fault_at.Needs as need
 
 pub returns-then-too-many : need.returns-then-too-many

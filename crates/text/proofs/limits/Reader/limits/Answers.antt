@@ -19,7 +19,7 @@ pub stamp-requires : need.stamp-requires
 stamp-requires c κs = record { within = omega arith; short = omega arith; small = λ t. c .in-None .ensures tt 3 (inl (refl, t)); counted = c .loop-i .inv .1; stamped = c .loop-i .inv .2 }
 
 pub noted-counts-requires : need.noted-counts-requires
-noted-counts-requires c κs = (omega arith, (omega arith, (λ t. c .in-None .ensures tt 3 (inl (refl, t)), c .loop-i .inv .1)))
+noted-counts-requires c κs = record { within = omega arith; short = omega arith; small = λ t. c .in-None .ensures tt 3 (inl (refl, t)); counted = c .loop-i .inv .1 }
 
 pub loop-i-again : need.loop-i-again
 loop-i-again c = (

@@ -1,4 +1,3 @@
-use Prim.Native.Nat.{ℕ, _<_, _≤_, max}
 use denote.Ref.{now}
 use Rattle.text.specs.Limits.{Clear, Counted, Stamped}
 use Rattle.text.proofs.limits.Reader.limits.Given as given
