@@ -14,14 +14,13 @@ use Rattle.std.proofs.shelf.Tests.{cases-eq, cases-bool, and-parts, and-from, o
 use Rattle.horn.specs.Sheets.{Sheet, Clause, Condition, Lawful, Lawful-clause, all-of, any-of, satisfies, holds-outcome, clause-at}
 use Rattle.horn.specs.Pebblings.{In-force, Broken}
 use Rattle.horn.specs.Levels.{in-force, first}
-use Rattle.horn.specs.Bans.{no-outcome, lowest-broken, tally, places, discharged}
+use Rattle.horn.specs.Bans.{no-outcome, tally, places, discharged}
 use Rattle.horn.specs.Lawfulness.{satisfiable}
 use Rattle.horn.proofs.Tests.{none-some, all-true, all-from, all-nth}
 use Rattle.horn.proofs.Forced.{none-lacked}
 use Rattle.horn.proofs.Entailment.{standing-or-broken, in-force-has}
 use Rattle.round.specs.Rows.{at, Rows, Filled, kept-outcome, clause-in, clauses-in, sheet-in}
 use Rattle.round.specs.Ranks.{Ranks, Scanned, ranked}
-use Rattle.round.proofs.Levels.{within}
 use Rattle.round.proofs.Meaning.{clause-here, here-clause, in-force-ranked}
 use Rattle.round.proofs.Sets.{split}
 

@@ -1,8 +1,8 @@
 -- The counters, step by step.
-use Prim.Native.Nat.{ℕ, zero, suc, _+_, _-_, _≤_, _<_}
-use mathlib.Core.Path.{_≡_, refl, sym, ap, subst, _∙_}
+use Prim.Native.Nat.{ℕ, _+_, _-_, _≤_, _<_}
+use mathlib.Core.Path.{_≡_, refl, sym, ap, _∙_}
 use mathlib.Core.Logic.{_⊎_, inl, inr}
-use mathlib.Core.Bool.{Bool, true, false, cond}
+use mathlib.Core.Bool.{true, false, cond}
 use mathlib.Core.List.{List}
 use native.Mathlib.Omega.{arith}
 use lib.Dec.{eqb}
@@ -15,7 +15,7 @@ use Rattle.round.proofs.Sets.{at-same, at-other, split}
 use Rattle.round.proofs.Zeros.{zeros-pos}
 use Rattle.round.proofs.Levels.{within}
 use Rattle.round.proofs.Queues.{Extends, Same, entered-extends, entered-same, entered-ranked, queued-entered, highest}
-use Rattle.round.proofs.Totals.{total-same, total-less, total-zero, total-none, total-ones}
+use Rattle.round.proofs.Totals.{total-same, total-less, total-zero}
 
 -- f with 0 at x
 without : (ℕ → ℕ) → ℕ → ℕ → ℕ
@@ -46,20 +46,20 @@ close-extends t rank rank′ ext c v =
     )
 
 -- what was entered had room
-pub room-or-same : (rank queue : List ℕ) (o r tail : ℕ) (rank′ queue′ : List ℕ) (tail′ : ℕ) → length rank ≤ length queue → o < length rank
+pub room-or-same : {rank queue : List ℕ} {o r tail : ℕ} {rank′ queue′ : List ℕ} {tail′ : ℕ} → length rank ≤ length queue → o < length rank
     → tail + zeros rank ≤ length rank → Entered o r rank queue tail rank′ queue′ tail′ → (tail < length queue) ⊎ (tail′ ≡ tail)
-room-or-same rank queue o r tail rank′ queue′ tail′ space known room e = split (e .cases)
+room-or-same {rank} {queue} {o} space known room e = split (e .cases)
     (λ a. inr (a .0))
     (λ a. inl (omega (arith, zeros-pos rank o known (a .4))))
 
 -- `enter`
-pub counted-entered : (t : Rows) (m : ℕ) (rank queue count : List ℕ) (head end tail level done next p cursor o r : ℕ) (rank′ queue′ : List ℕ) (tail′ : ℕ)
+pub counted-entered : {t : Rows} {m : ℕ} {rank queue count : List ℕ} {head end tail level done next p cursor o r : ℕ} {rank′ queue′ : List ℕ} {tail′ : ℕ}
     → Queued t rank queue head end tail level → tail < length queue ⊎ (tail′ ≡ tail) → done ≤ tail
     → Entered o r rank queue tail rank′ queue′ tail′
     → Counted t m rank queue count done next tail level p cursor → Counted t m rank′ queue′ count done next tail′ level p cursor
-counted-entered t m rank queue count head end tail level done next p cursor o r rank′ queue′ tail′ q space dl e w =
-    let ext : Extends rank rank′ = entered-extends o r rank queue tail rank′ queue′ tail′ e in
-    let same : (tail ≤ tail′) × Same tail queue queue′ = entered-same o r rank queue tail rank′ queue′ tail′ e in
+counted-entered {t} {m} {rank} {queue} {count} {head} {end} {tail} {level} {done} {next} {p} {cursor} {o} {r} {rank′} {queue′} {tail′} q space dl e w =
+    let ext : Extends rank rank′ = entered-extends e in
+    let same : (tail ≤ tail′) × Same tail queue queue′ = entered-same e in
     let new : tail < tail′ → (tail′ ≡ tail + 1) × (at queue′ tail ≡ o) × (at rank o ≡ 0) = λ l. split (e .cases)
     (λ a. absurd (omega (arith, a .0)))
     (λ a. (a .0, ap (λ (x : List ℕ). at x tail) (a .2) ∙ at-same queue tail o tail (split space (λ k. k) (λ k. absurd (omega arith))) refl, a .4)) in
@@ -95,7 +95,7 @@ size : (t : Rows) → Filled t → (c : ℕ) → c < length (t .outs)
 size t w c l = omega (arith, w .rising c l)
 
 -- Place is a place of the condition at the queue's head, not yet discharged; the places of that condition after it are.
-module _ (t : Rows) (rows : Filled t) (owner rank queue count : List ℕ) (head end tail level place : ℕ)
+module _ {t : Rows} {owner rank queue count : List ℕ} {head end tail level : ℕ} (place : ℕ) (rows : Filled t)
     (o : Owned t (length (t .outs)) (length (t .places)) owner)
     (q : Queued t rank queue head end tail level)
     (at-head : (head < end) × (at queue head ≡ at (t .places) place))
@@ -175,7 +175,7 @@ module _ (t : Rows) (rows : Filled t) (owner rank queue count : List ℕ) (head 
         }
 
 -- the clause's last place is discharged and its outcome entered
-module _ (t : Rows) (n : ℕ) (lawful : Lawful-rows n t) (owner rank queue count : List ℕ) (head end tail level place : ℕ)
+module _ {n : ℕ} {t : Rows} {owner rank queue count : List ℕ} {head end tail level : ℕ} (place : ℕ) (lawful : Lawful-rows n t)
     (o : Owned t (length (t .outs)) (length (t .places)) owner)
     (q : Queued t rank queue head end tail level)
     (at-head : (head < end) × (at queue head ≡ at (t .places) place))
@@ -183,32 +183,31 @@ module _ (t : Rows) (n : ℕ) (lawful : Lawful-rows n t) (owner rank queue count
     (w : Counted t (length (t .outs)) rank queue count head (head + 1) tail level (at (t .places) place) (place + 1))
     (last : at count (at owner place) ≡ 1)
     (space : length rank ≤ length queue) (known : at (t .outs) (at owner place) < length rank)
-    (rank′ queue′ : List ℕ) (tail′ : ℕ)
+    {rank′ queue′ : List ℕ} {tail′ : ℕ}
     (e : Entered (at (t .outs) (at owner place)) (level + 1) rank queue tail rank′ queue′ tail′)
   where
     pub last-queued : Queued t rank′ queue′ head end tail′ level
-    last-queued = queued-entered t rank queue head end tail level q space (at owner place) (o .within place l .0) known
-        (count-last t (lawful .rows) owner rank queue count head end tail level place o q at-head l w last) rank′ queue′ tail′ e
+    last-queued = queued-entered q space (at owner place) (o .within place l .0) known
+        (count-last place (lawful .rows) o q at-head l w last) e
 
     pub last-same : (tail ≤ tail′) × Same tail queue queue′
-    last-same = entered-same (at (t .outs) (at owner place)) (level + 1) rank queue tail rank′ queue′ tail′ e
+    last-same = entered-same e
 
     pub last-counted : length (t .outs) ≤ length count
         → Counted t (length (t .outs)) rank′ queue′ (set count (at owner place) (at count (at owner place) - 1)) head (head + 1) tail′ level (at (t .places) place) place
     last-counted sp =
         let here : (head < end) × (at queue′ head ≡ at (t .places) place) = (at-head .0, last-same .1 head (omega (arith, at-head .0, q .order)) ∙ at-head .1) in
-        counted-discharged t (lawful .rows) owner rank′ queue′ count head end tail′ level place o last-queued here l
-        (counted-entered t (length (t .outs)) rank queue count head end tail level head (head + 1) (at (t .places) place) (place + 1) (at (t .outs) (at owner place)) (level + 1)
-        rank′ queue′ tail′ q (room-or-same rank queue (at (t .outs) (at owner place)) (level + 1) tail rank′ queue′ tail′ space known (q .room) e) (omega (arith, q .order)) e w)
+        counted-discharged place (lawful .rows) o last-queued here l
+        (counted-entered q (room-or-same space known (q .room) e) (omega (arith, q .order)) e w)
         sp
         (λ z pos.
         let r : 0 < at rank′ (at (t .outs) (at owner place)) =
-        entered-ranked (at (t .outs) (at owner place)) (level + 1) rank queue tail rank′ queue′ tail′ known (omega arith) pos e in
+        entered-ranked e known (omega arith) pos in
         let y : at rank′ (at queue′ head) ≡ at rank′ (at (t .places) place) = ap (at rank′) (here .1) in (
           r,
           inr (
             place,
             o .within place l .1,
-            omega (arith, highest t rank′ queue′ head end tail′ level last-queued (at (t .outs) (at owner place)) r, last-queued .front head (omega arith) (at-head .0)),
+            omega (arith, highest last-queued (at (t .outs) (at owner place)) r, last-queued .front head (omega arith) (at-head .0)),
           ),
         ))

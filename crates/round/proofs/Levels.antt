@@ -1,10 +1,9 @@
 -- Ranks that each clause and each ranked condition bear out are the lengths of the shortest pebblings.
 use Prim.Native.Nat.{ℕ, zero, suc, _+_, _-_, _≤_, _<_}
-use mathlib.Core.Path.{_≡_, refl, sym, ap, subst, _∙_}
-use mathlib.Core.Logic.{_⊎_, inl, inr, ⊎-elim}
+use mathlib.Core.Path.{_≡_, ap, subst}
 use mathlib.Core.List.{List}
 use native.Mathlib.Omega.{arith}
-use lib.ListN.{length, getD}
+use lib.ListN.{length}
 use Rattle.round.specs.Rows.{at, Rows, Body, Filled, Lawful-rows}
 
 -- Level k holds the conditions with a pebbling of length at most k: the outcomes of the clauses whose conditions

@@ -1,21 +1,20 @@
 -- The sheet that rows hold: its clauses, its bodies, its levels and its ranks.
 use Prim.Native.Nat.{ℕ, zero, suc, _+_, _-_, _≤_, _<_, min}
-use mathlib.Core.Path.{_≡_, refl, sym, ap, subst, _∙_}
-use mathlib.Core.Bool.{Bool, true, false, cond, _&&_}
+use mathlib.Core.Path.{_≡_, refl, sym, ap, _∙_}
+use mathlib.Core.Bool.{Bool, true, false}
 use mathlib.Core.List.{List, [], _∷_, map}
 use native.Mathlib.Omega.{arith}
 use lib.Dec.{ltb}
 use lib.ListN.{length, take, drop}
 use Rattle.std.specs.Finite.{nth}
-use Rattle.std.specs.Holes.{between}
 use Rattle.std.specs.Iters.{counting}
-use Rattle.std.specs.declared.option.Option.the-variants.{Some, None}
+use Rattle.std.specs.declared.option.Option.the-variants.{Some}
 use Rattle.std.proofs.shelf.Lists.{getD-take, getD-drop, length-take, length-drop}
-use Rattle.std.proofs.shelf.Tests.{cases-lt, cases-bool, and-parts, and-from, eq-eqb, eqb-true, both-ways, cond-true, cond-false, lt-ltb, ltb-true}
+use Rattle.std.proofs.shelf.Tests.{cases-lt, cases-bool, and-parts, and-from, eq-eqb, eqb-true, both-ways, cond-true, cond-false, lt-ltb}
 use Rattle.horn.specs.Sheets.{Sheet, Clause, Lawful, all-of, is}
 use Rattle.horn.specs.Levels.{level, in-force, rank, rank-or-zero}
 use Rattle.horn.proofs.Tests.{none-some, some-inj}
-use Rattle.horn.proofs.Levels.{bool-same, level-more, level-clause, levels-stop, rank-below, rank-level, rank-pos}
+use Rattle.horn.proofs.Levels.{level-more, level-clause, levels-stop, rank-below, rank-level, rank-pos}
 use Rattle.round.specs.Rows.{at, Rows, Body, Lawful-rows, kept-outcome, clause-in, clauses-in, sheet-in}
 use Rattle.round.specs.Ranks.{Ranks, ranked}
 use Rattle.round.proofs.Levels.{Level, Rank, within, condition}

@@ -1,12 +1,12 @@
 -- The table of owners, one clause more.
 use Prim.Native.Nat.{ℕ, zero, suc, _+_, _-_, _≤_, _<_}
-use mathlib.Core.Path.{_≡_, refl, sym, ap, subst, _∙_}
-use mathlib.Core.Logic.{_⊎_, inl, inr, ⊎-elim}
+use mathlib.Core.Path.{_≡_, sym, ap, _∙_}
+use mathlib.Core.Logic.{⊎-elim}
 use mathlib.Core.List.{List}
 use native.Mathlib.Omega.{arith}
 use lib.ListN.{length}
 use Rattle.std.proofs.shelf.Tests.{cases-lt}
-use Rattle.round.specs.Rows.{at, Rows, Body, Filled}
+use Rattle.round.specs.Rows.{at, Rows, Filled}
 use Rattle.round.specs.Occurrences.{Owned}
 
 starts-up : (t : Rows) → Filled t → (a d : ℕ) → a + d ≤ length (t .outs) → at (t .starts) a ≤ at (t .starts) (a + d)

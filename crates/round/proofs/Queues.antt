@@ -1,14 +1,14 @@
 -- The queue and the ranks after `enter`.
-use Prim.Native.Nat.{ℕ, zero, suc, _+_, _-_, _≤_, _<_}
-use mathlib.Core.Path.{_≡_, refl, sym, ap, subst, _∙_}
-use mathlib.Core.Logic.{_⊎_, inl, inr, ⊎-elim}
+use Prim.Native.Nat.{ℕ, _+_, _≤_, _<_}
+use mathlib.Core.Path.{_≡_, refl, sym, ap, _∙_}
+use mathlib.Core.Logic.{⊎-elim}
 use mathlib.Core.List.{List}
 use native.Mathlib.Omega.{arith}
 use lib.ListN.{length, set}
 use Rattle.std.proofs.shelf.Lists.{length-set}
 use Rattle.std.proofs.shelf.Tests.{cases-lt, cases-eq}
-use Rattle.round.specs.Rows.{at, Rows, Body, Filled}
-use Rattle.round.specs.Steps.{Entered, Queued, zeros}
+use Rattle.round.specs.Rows.{at, Rows, Body}
+use Rattle.round.specs.Steps.{Entered, Queued}
 use Rattle.round.proofs.Sets.{at-same, at-other, split}
 use Rattle.round.proofs.Zeros.{zeros-pos, zeros-set}
 
@@ -20,41 +20,41 @@ Extends rank rank′ = (q : ℕ) → 0 < at rank q → at rank′ q ≡ at rank 
 abbrev pub Same : ℕ → List ℕ → List ℕ → Type 0
 Same n queue queue′ = (i : ℕ) → i < n → at queue′ i ≡ at queue i
 
-module _ (o r : ℕ) (rank queue : List ℕ) (tail : ℕ) where
-  pub entered-extends : (rank′ queue′ : List ℕ) (tail′ : ℕ) → Entered o r rank queue tail rank′ queue′ tail′ → Extends rank rank′
-  entered-extends rank′ queue′ tail′ e q h = ⊎-elim
+module _ {o r : ℕ} {rank queue : List ℕ} {tail : ℕ} {rank′ queue′ : List ℕ} {tail′ : ℕ} (e : Entered o r rank queue tail rank′ queue′ tail′) where
+  pub entered-extends : Extends rank rank′
+  entered-extends q h = ⊎-elim
       (λ a. ap (λ (x : List ℕ). at x q) (a .1))
       (λ a. ap (λ (x : List ℕ). at x q) (a .1) ∙ at-other rank o r q (λ k. let z : at rank q ≡ at rank o = ap (at rank) k in omega (arith, a .4)))
       (e .cases)
 
-  pub entered-same : (rank′ queue′ : List ℕ) (tail′ : ℕ) → Entered o r rank queue tail rank′ queue′ tail′ → (tail ≤ tail′) × Same tail queue queue′
-  entered-same rank′ queue′ tail′ e = ⊎-elim
+  pub entered-same : (tail ≤ tail′) × Same tail queue queue′
+  entered-same = ⊎-elim
       (λ a. (omega (arith, a .0), λ i h. ap (λ (x : List ℕ). at x i) (a .2)))
       (λ a. (omega (arith, a .0), λ i h. ap (λ (x : List ℕ). at x i) (a .2) ∙ at-other queue tail o i (omega arith)))
       (e .cases)
 
   -- the outcome is ranked then
-  pub entered-ranked : (rank′ queue′ : List ℕ) (tail′ : ℕ) → o < length rank → 0 < r → 0 < o → Entered o r rank queue tail rank′ queue′ tail′ → 0 < at rank′ o
-  entered-ranked rank′ queue′ tail′ l p h e = ⊎-elim
+  pub entered-ranked : o < length rank → 0 < r → 0 < o → 0 < at rank′ o
+  entered-ranked l p h = ⊎-elim
       (λ a. let z : at rank′ o ≡ at rank o = ap (λ (x : List ℕ). at x o) (a .1) in
       ⊎-elim (λ b. omega arith) (λ b. omega arith) (a .3))
       (λ a. let z : at rank′ o ≡ r = ap (λ (x : List ℕ). at x o) (a .1) ∙ at-same rank o r o l refl in omega arith)
       (e .cases)
 
 -- every ranked condition has a rank up to level + 1
-pub highest : (t : Rows) (rank queue : List ℕ) (head end tail level : ℕ) → Queued t rank queue head end tail level
+pub highest : {t : Rows} {rank queue : List ℕ} {head end tail level : ℕ} → Queued t rank queue head end tail level
     → (p : ℕ) → 0 < at rank p → at rank p ≤ level + 1
-highest t rank queue head end tail level q p h =
+highest {t} {rank} {queue} {head} {end} {tail} {level} q p h =
     let g = q .listed p h in
     let z : at rank (at queue (g .0)) ≡ at rank p = ap (at rank) (g .2) in
     ⊎-elim (λ k. omega (arith, q .low (g .0) k)) (λ k. omega (arith, q .back (g .0) k (g .1))) (cases-lt (g .0) end)
 
 -- an outcome more
-pub queued-set : (t : Rows) (rank queue : List ℕ) (head end tail level : ℕ) → Queued t rank queue head end tail level
+pub queued-set : {t : Rows} {rank queue : List ℕ} {head end tail level : ℕ} → Queued t rank queue head end tail level
     → length rank ≤ length queue → (c : ℕ) → c < length (t .outs) → at (t .outs) c < length rank → 0 < at (t .outs) c → at rank (at (t .outs) c) ≡ 0
     → ((j : ℕ) → Body t c j → (0 < at rank (at (t .places) j)) × (at rank (at (t .places) j) ≤ level))
     → Queued t (set rank (at (t .outs) c) (level + 1)) (set queue tail (at (t .outs) c)) head end (tail + 1) level
-queued-set t rank queue head end tail level q sp c l m pos zero′ body =
+queued-set {t} {rank} {queue} {head} {end} {tail} {level} q sp c l m pos zero′ body =
     let o : ℕ = at (t .outs) c in
     let rank′ : List ℕ = set rank o (level + 1) in
     let queue′ : List ℕ = set queue tail o in
@@ -96,12 +96,12 @@ queued-set t rank queue head end tail level q sp c l m pos zero′ body =
           (cases-eq p o);
     }
 
-pub queued-entered : (t : Rows) (rank queue : List ℕ) (head end tail level : ℕ) → Queued t rank queue head end tail level
+pub queued-entered : {t : Rows} {rank queue : List ℕ} {head end tail level : ℕ} → Queued t rank queue head end tail level
     → length rank ≤ length queue → (c : ℕ) → c < length (t .outs) → at (t .outs) c < length rank
     → ((j : ℕ) → Body t c j → (0 < at rank (at (t .places) j)) × (at rank (at (t .places) j) ≤ level))
-    → (rank′ queue′ : List ℕ) (tail′ : ℕ) → Entered (at (t .outs) c) (level + 1) rank queue tail rank′ queue′ tail′
+    → {rank′ queue′ : List ℕ} {tail′ : ℕ} → Entered (at (t .outs) c) (level + 1) rank queue tail rank′ queue′ tail′
     → Queued t rank′ queue′ head end tail′ level
-queued-entered t rank queue head end tail level q sp c l m body rank′ queue′ tail′ e = ⊎-elim
+queued-entered q sp c l m body e = ⊎-elim
     (λ a. rw (a .0, a .1, a .2) q)
-    (λ a. rw (a .0, a .1, a .2) (queued-set t rank queue head end tail level q sp c l m (a .3) (a .4) body))
+    (λ a. rw (a .0, a .1, a .2) (queued-set q sp c l m (a .3) (a .4) body))
     (e .cases)

@@ -1,11 +1,10 @@
 -- Rows after a write.
 use Prim.Native.Nat.{ℕ, _<_}
-use mathlib.Core.Path.{_≡_, refl, sym, ap, _∙_}
-use mathlib.Core.Logic.{_⊎_, inl, inr, ⊎-elim}
+use mathlib.Core.Path.{_≡_, ap, _∙_}
+use mathlib.Core.Logic.{_⊎_, inl, inr}
 use mathlib.Core.List.{List}
 use lib.ListN.{length, set}
 use lib.Seq.{getD-set-same, getD-set-other}
-use Rattle.std.proofs.shelf.Tests.{cases-eq}
 use Rattle.round.specs.Rows.{at}
 
 pub at-same : (xs : List ℕ) (i v j : ℕ) → i < length xs → j ≡ i → at (set xs i v) j ≡ v

@@ -1,30 +1,30 @@
 -- The steps from place to place, from condition to condition and from level to level.
 use Prim.Native.Nat.{ℕ, _+_, _-_, _≤_, _<_}
 use mathlib.Core.Path.{_≡_, refl, sym, ap, _∙_}
-use mathlib.Core.Logic.{_⊎_, inl, inr}
+use mathlib.Core.Logic.{_⊎_}
 use mathlib.Core.List.{List}
 use native.Mathlib.Omega.{arith}
 use lib.ListN.{length, set}
 use Rattle.std.proofs.shelf.Tests.{cases-lt, cases-eq}
-use Rattle.round.specs.Rows.{at, Rows, Body, Filled, Lawful-rows}
+use Rattle.round.specs.Rows.{at, Rows, Lawful-rows}
 use Rattle.round.specs.Occurrences.{Chained}
-use Rattle.round.specs.Steps.{zeros, total, Queued, Counted, Close}
+use Rattle.round.specs.Steps.{Queued, Counted, Close}
 use Rattle.round.proofs.Sets.{split, at-same, at-other}
 use Rattle.round.proofs.Zeros.{zeros-le}
 use Rattle.round.proofs.Totals.{total-same, total-ones, total-none}
-use Rattle.round.proofs.Levels.{Rank, within, condition, are-ranks}
+use Rattle.round.proofs.Levels.{Rank, within, are-ranks}
 
 -- the same cursor, written otherwise
-pub counted-at : (t : Rows) (m : ℕ) (rank queue count : List ℕ) (done next tail level p cursor p′ cursor′ : ℕ)
+pub counted-at : {t : Rows} {m : ℕ} {rank queue count : List ℕ} {done next tail level p cursor p′ cursor′ : ℕ}
     → p ≡ p′ → cursor ≡ cursor′ → Counted t m rank queue count done next tail level p cursor → Counted t m rank queue count done next tail level p′ cursor′
-counted-at t m rank queue count done next tail level p cursor p′ cursor′ e d w = rw (e, d) at w
+counted-at e d w = rw (e, d) at w
 
 -- before the last place of the condition at the head
-pub counted-first : (t : Rows) (rank queue count first next : List ℕ) (head tail level : ℕ)
+pub counted-first : {t : Rows} {rank queue count first next : List ℕ} {head tail level : ℕ}
     → Chained (length (t .places)) (t .places) first next → head < tail
     → Counted t (length (t .outs)) rank queue count head head tail level 0 0
     → Counted t (length (t .outs)) rank queue count head (head + 1) tail level (at queue head) (at first (at queue head))
-counted-first t rank queue count first next head tail level ch l w = record {
+counted-first {t} {rank} {queue} {count} {first} {next} {head} ch l w = record {
   pending = w .pending;
   counts = w .counts;
   discharged = w .discharged;
@@ -38,11 +38,11 @@ counted-first t rank queue count first next head tail level ch l w = record {
 }
 
 -- on to the place before
-pub counted-next : (t : Rows) (rank queue count first next : List ℕ) (done after tail level place : ℕ)
+pub counted-next : {t : Rows} {rank queue count first next : List ℕ} {done after tail level : ℕ} (place : ℕ)
     → Chained (length (t .places)) (t .places) first next → place < length (t .places)
     → Counted t (length (t .outs)) rank queue count done after tail level (at (t .places) place) place
     → Counted t (length (t .outs)) rank queue count done after tail level (at (t .places) place) (at next place)
-counted-next t rank queue count first next done after tail level place ch l w = record {
+counted-next place ch l w = record {
   pending = w .pending;
   counts = w .counts;
   discharged = w .discharged;
@@ -58,10 +58,10 @@ counted-next t rank queue count first next done after tail level place ch l w = 
 }
 
 -- after the last place of the condition at the head
-pub counted-last : (n : ℕ) (t : Rows) → Lawful-rows n t → (rank queue count : List ℕ) (head tail level p : ℕ) → at queue head ≡ p
+pub counted-last : {n : ℕ} {t : Rows} {rank queue count : List ℕ} {head tail level p : ℕ} → Lawful-rows n t → at queue head ≡ p
     → Counted t (length (t .outs)) rank queue count head (head + 1) tail level p 0
     → Counted t (length (t .outs)) rank queue count (head + 1) (head + 1) tail level 0 0
-counted-last n t lw rank queue count head tail level p at-head w = record {
+counted-last {n} {t} {rank} {queue} {count} {head} {tail} {level} {p} lw at-head w = record {
   pending = w .pending;
   counts = w .counts;
   discharged = w .discharged;
@@ -79,9 +79,9 @@ counted-last n t lw rank queue count head tail level p at-head w = record {
 }
 
 -- the next level
-pub queued-level : (t : Rows) (rank queue : List ℕ) (head end tail level : ℕ) → head ≡ end
+pub queued-level : {t : Rows} {rank queue : List ℕ} {head end tail level : ℕ} → head ≡ end
     → Queued t rank queue head end tail level → Queued t rank queue head tail tail (level + 1)
-queued-level t rank queue head end tail level e q = record {
+queued-level {t} {rank} {queue} {head} {end} {tail} {level} e q = record {
   room = q .room;
   order = (omega (arith, q .order), omega arith);
   ranked = q .ranked;
@@ -92,9 +92,9 @@ queued-level t rank queue head end tail level e q = record {
   founded = q .founded;
 }
 
-counted-level : (t : Rows) (m : ℕ) (rank queue count : List ℕ) (head tail level : ℕ)
+counted-level : {t : Rows} {m : ℕ} {rank queue count : List ℕ} {head tail level : ℕ}
     → Counted t m rank queue count head head tail level 0 0 → Counted t m rank queue count head head tail (level + 1) 0 0
-counted-level t m rank queue count head tail level w = record {
+counted-level w = record {
   pending = w .pending;
   counts = w .counts;
   unranked = w .unranked;
@@ -108,18 +108,18 @@ counted-level t m rank queue count head tail level w = record {
 }
 
 -- at the head of the queue, after the step to the next level if the last one is done
-pub at-head : (t : Rows) (m : ℕ) (rank queue count : List ℕ) (head end tail level end′ level′ : ℕ) → head < tail → level ≤ head
+pub at-head : {t : Rows} {m : ℕ} {rank queue count : List ℕ} {head end tail level end′ level′ : ℕ} → head < tail → level ≤ head
     → ((head ≡ end) × (end′ ≡ tail) × (level′ ≡ level + 1)) ⊎ ((head ≡ end → ⊥) × (end′ ≡ end) × (level′ ≡ level))
     → Queued t rank queue head end tail level → Counted t m rank queue count head head tail level 0 0
     → (head < end′) × (level′ ≤ head + 1) × Queued t rank queue head end′ tail level′ × Counted t m rank queue count head head tail level′ 0 0
-at-head t m rank queue count head end tail level end′ level′ l few came q w = split came
-    (λ x. rw (x .1, x .2) (l, omega arith, queued-level t rank queue head end tail level (x .0) q, counted-level t m rank queue count head tail level w))
+at-head l few came q w = split came
+    (λ x. rw (x .1, x .2) (l, omega arith, queued-level (x .0) q, counted-level w))
     (λ x. rw (x .1, x .2) (omega (arith, x .0, q .order), omega arith, q, w))
 
 -- one condition is done
-pub queued-step : (t : Rows) (rank queue : List ℕ) (head end tail level : ℕ) → head < end
+pub queued-step : {t : Rows} {rank queue : List ℕ} {head end tail level : ℕ} → head < end
     → Queued t rank queue head end tail level → Queued t rank queue (head + 1) end tail level
-queued-step t rank queue head end tail level l q = record {
+queued-step l q = record {
   room = q .room;
   order = (omega arith, q .order .1);
   ranked = q .ranked;
@@ -158,12 +158,12 @@ counted-none t rank queue count = record {
 }
 
 -- one clause more has its counter
-pub counted-more : (n : ℕ) (t : Rows) → Lawful-rows n t → (c : ℕ) (rank queue count : List ℕ) (tail : ℕ) → c < length (t .outs) → length (t .outs) ≤ length count
+pub counted-more : {n : ℕ} {t : Rows} {rank queue count : List ℕ} {tail : ℕ} → Lawful-rows n t → (c : ℕ) → c < length (t .outs) → length (t .outs) ≤ length count
     → (at (t .starts) (c + 1) - at (t .starts) c ≡ 0 → 0 < at (t .outs) c → Close t rank c)
     → Queued t rank queue 0 0 tail 0
     → Counted t c rank queue count 0 0 tail 0 0 0
     → Counted t (c + 1) rank queue (set count c (at (t .starts) (c + 1) - at (t .starts) c)) 0 0 tail 0 0 0
-counted-more n t lw c rank queue count tail l sp close q w =
+counted-more {n} {t} {rank} {queue} {count} lw c l sp close q w =
     let k : ℕ = at (t .starts) (c + 1) - at (t .starts) c in
     let count′ : List ℕ = set count c k in
     let new : at count′ c ≡ k = at-same count c k c (omega arith) refl in
@@ -190,10 +190,10 @@ counted-more n t lw c rank queue count tail l sp close q w =
     }
 
 -- the end: all that is in the queue is done
-pub finished : (n : ℕ) (t : Rows) → Lawful-rows n t → (rank queue count : List ℕ) (head end tail level : ℕ) → tail ≤ head
+pub finished : {n : ℕ} {t : Rows} {rank queue count : List ℕ} {head end tail level : ℕ} → Lawful-rows n t → tail ≤ head
     → Queued t rank queue head end tail level → Counted t (length (t .outs)) rank queue count head head tail level 0 0
     → (p : ℕ) → 0 < p → Rank t p (at rank p)
-finished n t lw rank queue count head end tail level done q w = are-ranks n t lw rank (q .founded)
+finished {n} {t} {rank} {queue} {count} lw done q w = are-ranks n t lw rank (q .founded)
     (λ c k l pos body.
     let none : at count c ≡ 0 = w .counts c l ∙ total-none (w .pending) (at (t .starts) c) (at (t .starts) (c + 1) - at (t .starts) c)
     (λ j a b. let v = body j (a, omega (arith, a, b)) in

@@ -1,12 +1,11 @@
 -- The number of zeros of a table.
 use Prim.Native.Nat.{ℕ, _+_, _≤_, _<_}
-use mathlib.Core.Path.{_≡_, refl, sym, ap, subst, _∙_}
-use mathlib.Core.Bool.{Bool, true, false, cond}
+use mathlib.Core.Path.{_≡_}
+use mathlib.Core.Bool.{false, cond}
 use mathlib.Core.List.{List}
 use native.Mathlib.Omega.{arith}
 use lib.Dec.{eqb}
-use lib.ListN.{length, getD, set}
-use Rattle.std.specs.shelf.Lists.{countBy, sumBy}
+use lib.ListN.{length, set}
 use Rattle.std.proofs.shelf.Sums.{getD-le-sumBy, sumBy-set, countBy-le-length}
 use Rattle.std.proofs.shelf.Tests.{ne-eqb}
 use Rattle.round.specs.Rows.{at}

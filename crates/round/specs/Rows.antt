@@ -1,14 +1,14 @@
--- Horn clauses in flat rows, and the lengths of the shortest pebblings of their conditions.
+-- Horn clauses in flat rows, and the sheet that they hold.
 use Prim.Native.Nat.{ℕ, zero, suc, _+_, _≤_, _<_}
 use mathlib.Core.Path.{_≡_}
 use mathlib.Core.List.{List, map}
+use denote.Ref.{now}
 use lib.ListN.{length, getD}
 use Rattle.std.specs.Holes.{between}
 use Rattle.std.specs.Iters.{counting}
 use Rattle.std.specs.declared.option.Option.{Option}
 use Rattle.std.specs.declared.option.Option.the-variants.{Some, None}
 use Rattle.horn.specs.Sheets.{Clause, Sheet}
-use denote.Ref.{now}
 use Rattle.round.specs.declared.propagation.rows.ClauseRows.{ClauseRows}
 
 -- what stands at a place of a table, 0 past its end

@@ -1,4 +1,4 @@
-use Rattle.round.specs.Rows.{at, rows-of}
+use Rattle.round.specs.Rows.{rows-of}
 use Rattle.round.specs.Steps.{Queued, Counted}
 use Rattle.round.proofs.propagation.levels.seed.Given as given
 

@@ -1,24 +1,23 @@
 use native.Mathlib.Omega.{arith}
-use Prim.Native.Nat.{ℕ, _+_, _≤_, _<_}
-use mathlib.Core.Path.{_≡_, refl}
+use Prim.Native.Nat.{_+_}
+use mathlib.Core.Path.{_≡_}
+use mathlib.Core.Logic.{_⊎_, inl, inr}
 use lib.ListN.{length}
-use Rattle.round.specs.Rows.{at, Rows, rows-of}
-use Rattle.round.specs.Steps.{Queued}
+use Rattle.round.specs.Rows.{at, rows-of}
 use Rattle.round.proofs.Turns.{finished, at-head}
 use Rattle.round.proofs.Meaning.{is-rank}
-use mathlib.Core.Logic.{_⊎_, inl, inr}
 use Rattle.round.proofs.propagation.levels.spread.Needs.{then-head-end, else-head-end}
 use Rattle.round.proofs.propagation.levels.spread.Needs as need
 
 pub discharge-back-requires : need.discharge-back-requires
 discharge-back-requires c κs =
-    let t : Rows = rows-of (c .args .clauses) in
     let came : ((c .loop-head .head ≡ c .loop-head .end) × (c .if-head-end .end ≡ c .loop-head .back) × (c .if-head-end .level ≡ c .loop-head .level + 1))
     ⊎ ((c .loop-head .head ≡ c .loop-head .end → ⊥) × (c .if-head-end .end ≡ c .loop-head .end) × (c .if-head-end .level ≡ c .loop-head .level)) =
-    elim (c .if-head-end .came) [ then-head-end w ↦ inl (w .if-head-end .taken, w .end-is, w .level-is) | else-head-end w ↦ inr (w .if-head-end .left, w .end-is, w .level-is) ] in
-    let v = at-head t (length (c .args .clauses .outcomes .now)) (c .loop-head .rank) (c .loop-head .queue) (c .loop-head .count) (c .loop-head .head) (c .loop-head .end)
-    (c .loop-head .back) (c .loop-head .level) (c .if-head-end .end) (c .if-head-end .level) (c .loop-head-test .taken) (c .loop-head .inv .few) came
-    (c .loop-head .inv .queued) (c .loop-head .inv .counted) in
+    elim (c .if-head-end .came) [
+      | then-head-end w ↦ inl (w .if-head-end .taken, w .end-is, w .level-is)
+      | else-head-end w ↦ inr (w .if-head-end .left, w .end-is, w .level-is)
+    ] in
+    let v = at-head (c .loop-head-test .taken) (c .loop-head .inv .few) came (c .loop-head .inv .queued) (c .loop-head .inv .counted) in
     let same : length (c .args .rank .now) ≡ length (c .loop-head .rank) = omega arith in
     record {
       lawful = rw same at (c .pre .lawful);
@@ -37,8 +36,5 @@ add-head c = omega (arith, c .loop-head .inv .queued .room, c .loop-head-test .t
 
 pub returns : need.returns
 returns c = λ top lawful p h.
-    let t : Rows = rows-of (c .args .clauses) in
-    is-rank (length (c .args .rank .now)) t (c .pre .lawful) top lawful p (at (c .loop-head .rank) p) h
-    (finished (length (c .args .rank .now)) t (c .pre .lawful)
-    (c .loop-head .rank) (c .loop-head .queue) (c .loop-head .count) (c .loop-head .head) (c .loop-head .end) (c .loop-head .back) (c .loop-head .level)
-    (omega arith) (c .loop-head .inv .queued) (c .loop-head .inv .counted) p h)
+    is-rank (length (c .args .rank .now)) (rows-of (c .args .clauses)) (c .pre .lawful) top lawful p (at (c .loop-head .rank) p) h
+    (finished (c .pre .lawful) (c .loop-head-test .left) (c .loop-head .inv .queued) (c .loop-head .inv .counted) p h)

@@ -1,6 +1,6 @@
-use Prim.Native.Nat.{_-_, _≤_, _<_}
+use Prim.Native.Nat.{_-_, _≤_}
 use lib.ListN.{length}
-use Rattle.round.specs.Rows.{at, rows-of}
+use Rattle.round.specs.Rows.{rows-of}
 use Rattle.round.specs.Steps.{Queued, Counted}
 use Rattle.round.proofs.propagation.levels.spread.Given as given
 

@@ -1,9 +1,8 @@
 use Prim.Native.Nat.{_+_}
-use borrow.Author.Needs.{needs}
 use native.Mathlib.Omega.{arith}
 use Rattle.round.specs.Rows.{rows-of}
 use Rattle.round.proofs.Levels.{within}
-use Rattle.round.proofs.Owners.{owned-none, owned-more, owned-all}
+use Rattle.round.proofs.Owners.{owned-more, owned-all}
 use Rattle.round.proofs.propagation.occurrences.own.Needs as need
 
 pub own-body-requires : need.own-body-requires

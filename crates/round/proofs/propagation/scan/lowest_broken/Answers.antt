@@ -1,10 +1,9 @@
 use native.Mathlib.Omega.{arith}
-use Prim.Native.Nat.{ℕ, _+_, _<_}
-use mathlib.Core.Path.{_≡_, sym, ap, _∙_}
-use mathlib.Core.Bool.{Bool, _&&_}
+use Prim.Native.Nat.{ℕ, _+_}
+use mathlib.Core.Path.{sym, ap}
 use Rattle.horn.specs.Bans.{no-outcome}
 use Rattle.std.proofs.shelf.Tests.{and-from}
-use Rattle.round.specs.Rows.{at, Rows, rows-of, kept-outcome, clause-in}
+use Rattle.round.specs.Rows.{Rows, rows-of, kept-outcome, clause-in}
 use Rattle.round.specs.Ranks.{ranked}
 use Rattle.round.proofs.Levels.{within}
 use Rattle.round.proofs.Meaning.{body-below}
