@@ -3,7 +3,6 @@ use Prim.Native.Nat.{ℕ, _+_, _*_, _/_, _%_, _≤_}
 use mathlib.Core.Path.{_≡_, refl, sym, ap, subst, _∙_}
 use mathlib.Core.Bool.{Bool, cond, _&&_}
 use mathlib.Core.List.{List, [], _∷_, _++_, append-assoc}
-use mathlib.Core.Logic.{inl, inr}
 use native.Mathlib.Omega.{arith}
 use lib.Dec.{eqb}
 use lib.ListN.{length, take, drop}
@@ -22,7 +21,8 @@ use Rattle.text.specs.Judging.{Good}
 use Rattle.text.specs.Verdicts.{Judged}
 use Rattle.text.specs.Reading.{Meant}
 use Rattle.text.proofs.Pinned.{one-answer}
-use Rattle.round.specs.Answers.{Answer, Else, Opens, Asks}
+use Rattle.round.specs.Answers.{Answer, Opens, Asks}
+use Rattle.round.proofs.Choosing.{determined}
 use Rattle.console.specs.Records.{Record, network, show, opening, asking, mark, bytes-of, all-bytes, Fitting, No-record, Parsed, Parsed-once}
 use Rattle.console.specs.Lines.{Reply, line}
 use Rattle.console.specs.Session.{State, Judging, Opening, Asking, Step, Session, done, step, Served, Served-once, verdict-reply, kept, answer-reply, opened, ending, at-first}
@@ -91,17 +91,11 @@ judging-once t old a b y z p q =
     (p .reply ∙ ap verdict-reply v ∙ sym (q .reply), p .holds ∙ (λ i. kept (v i) (s i) old) ∙ sym (q .holds))
 
 -- a call of the round has one answer
-else-once : (P : Type 0) (x : Answer) (rest : Answer → Type 0) → ((a b : Answer) → rest a → rest b → a ≡ b) → (a b : Answer) → Else P x rest a → Else P x rest b → a ≡ b
-else-once P x rest one a b (inl p) (inl q) = p .1 ∙ sym (q .1)
-else-once P x rest one a b (inl p) (inr q) = absurd (q .0 (p .0))
-else-once P x rest one a b (inr p) (inl q) = absurd (p .0 (q .0))
-else-once P x rest one a b (inr p) (inr q) = one a b (p .1) (q .1)
-
 opens-once : (s : Sheet) (a b : Answer) → Opens s a → Opens s b → a ≡ b
-opens-once s = else-once _ _ _ (else-once _ _ _ (λ a b e f. e ∙ sym f))
+opens-once s a b p q = determined .opens s .alone a p ∙ sym (determined .opens s .alone b q)
 
-asks-once : (s : Sheet) (p : ℕ) (a b : Answer) → Asks s p a → Asks s p b → a ≡ b
-asks-once s p = else-once _ _ _ (λ a b e f. e ∙ sym f)
+asks-once : (s : Sheet) (k : ℕ) (a b : Answer) → Asks s k a → Asks s k b → a ≡ b
+asks-once s k a b p q = determined .asks s k .alone a p ∙ sym (determined .asks s k .alone b q)
 
 same-state : (m n : State) → m .of-network ≡ n .of-network → m .of-show ≡ n .of-show → m .of-round ≡ n .of-round → m ≡ n
 same-state m n e f g = λ i. record { of-network = e i; of-show = f i; of-round = g i }

@@ -55,6 +55,6 @@ pub record Parsed (input : List ℕ) (rs : List Record) (rest : List ℕ) : Type
   pub whole : input ≡ all-bytes rs ++ rest
   pub ended : No-record rest
 
--- An input has at most one such reading; that it has one, `serve` shows.
+-- An input has at most one such reading; that it has one, `serve` shows, wherever there is memory.
 abbrev pub Parsed-once : Type 0
 Parsed-once = (input : List ℕ) (rs qs : List Record) (a b : List ℕ) → Parsed input rs a → Parsed input qs b → (rs ≡ qs) × (a ≡ b)

@@ -98,6 +98,6 @@ pub record Served (input output : List ℕ) : Type 0 where
   pub session : Session at-first records lines last
   pub whole : output ≡ lines ++ ending (length (all-bytes records)) rest
 
--- An input has at most one output; that it has one, `serve` shows.
+-- An input has at most one output; that it has one, `serve` shows, wherever there is memory.
 abbrev pub Served-once : Type 0
 Served-once = (input a b : List ℕ) → Served input a → Served input b → a ≡ b

@@ -6,4 +6,5 @@ mod records;
 mod serving;
 pub mod theorems;
 
+pub use serving::LIMIT;
 pub use serving::serve;

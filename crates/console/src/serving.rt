@@ -11,14 +11,17 @@ use crate::records::take_record;
 use std::alloc::AllocError;
 use std::alloc::Global;
 
+// How many bytes of the input are read at most.
+pub const LIMIT: usize = 48_000;
+
 // The bytes of the input that are read.
 fn front(input: &[u8]) -> &[u8]
     ensures { λ r. ⌜ now r ≡ take 48000 (now (input .entry)) ⌝ }
 {
-    if input.len() <= 48000 {
+    if input.len() <= LIMIT {
         input
     } else {
-        &input[0..48000]
+        &input[0..LIMIT]
     }
 }
 

@@ -1,4 +1,5 @@
-// The console program: standard input, at most its first 48,000 bytes, to standard output.
+// The console program: standard input, no more of it than the console reads, to standard output.
+use console::LIMIT;
 use console::serve;
 use std::io;
 use std::io::Read;
@@ -6,7 +7,7 @@ use std::io::Write;
 
 fn main(rt: LibcRuntime) -> io::Result<()> {
     let mut input = Vec::new(rt.alloc());
-    rt.stdin().take(48_000).read_to_end(&mut input)?;
+    rt.stdin().take(LIMIT as u64).read_to_end(&mut input)?;
     let output = serve(rt.alloc(), &input)?;
     rt.stdout().write_all(output.as_bytes())
 }
