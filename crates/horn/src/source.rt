@@ -2,8 +2,8 @@
 ghost use mathlib.Core.Path.{_≡_};
 ghost use lib.ListN.{length};
 ghost use denote.Ref.{now};
-ghost use Rattle.horn.specs.Sheets.{Sheet, empty-sheet};
-ghost use Rattle.horn.specs.Sources.{Lawful-source, outcome-at, size-at, condition-at, empty-lawful};
+ghost use Rattle.horn.specs.Sheets.{Sheet};
+ghost use Rattle.horn.specs.Sources.{Lawful-source, outcome-at, size-at, condition-at};
 
 // A question changes nothing, so it is always answered alike.
 pub trait Source {
@@ -32,36 +32,6 @@ pub trait Source {
     // the condition at place j of the body of clause i
     fn body_at(&self, i: u16, j: u16) -> Option<u16>
         ensures { λ r. ⌜ r ≡ condition-at (sheet (now (self .entry))) i j ⌝ };
-}
-
-// The source without clauses.
-#[derive(Clone, Copy)]
-pub struct Nothing;
-
-pub impl Source for Nothing as NothingSource {
-    ghost sheet = { λ _. empty-sheet };
-
-    ghost lawful = { λ _. empty-lawful };
-
-    fn conditions(&self) -> u16 {
-        0
-    }
-
-    fn clauses(&self) -> u16 {
-        0
-    }
-
-    fn outcome(&self, _i: u16) -> Option<u16> {
-        None
-    }
-
-    fn body_len(&self, _i: u16) -> Option<u16> {
-        None
-    }
-
-    fn body_at(&self, _i: u16, _j: u16) -> Option<u16> {
-        None
-    }
 }
 
 // A source that is lent is one too.
