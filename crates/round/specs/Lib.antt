@@ -4,3 +4,11 @@ pub mod Steps
 pub mod Broken
 pub mod Answers
 pub mod Exact
+pub mod Writing
+pub mod Held
+pub mod Replies
+pub mod Good
+pub mod Sound
+pub mod Sets
+pub mod Determined
+pub mod Scratch

@@ -8,6 +8,8 @@ use Rattle.std.specs.Iters.{counting}
 use Rattle.std.specs.declared.option.Option.{Option}
 use Rattle.std.specs.declared.option.Option.the-variants.{Some, None}
 use Rattle.horn.specs.Sheets.{Clause, Sheet}
+use denote.Ref.{now}
+use Rattle.round.specs.declared.propagation.rows.ClauseRows.{ClauseRows}
 
 -- what stands at a place of a table, 0 past its end
 abbrev pub at : List ℕ → ℕ → ℕ
@@ -22,6 +24,10 @@ pub record Rows : Type 0 where
 
 abbrev pub rows : List ℕ → List ℕ → List ℕ → Rows
 rows o s p = record { outs = o; starts = s; places = p }
+
+-- the rows that are lent
+abbrev pub rows-of : ClauseRows → Rows
+rows-of r = rows (now (r .outcomes)) (now (r .starts)) (now (r .places))
 
 -- j is a place of the body of clause c
 abbrev pub Body : Rows → ℕ → ℕ → Type 0

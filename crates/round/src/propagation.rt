@@ -1,11 +1,19 @@
-ghost use mathlib.Core.Bool.{true};
-ghost use Rattle.std.specs.Orderings.{When};
-ghost use Rattle.round.specs.Broken.{struck, Met, Lowest};
+mod rows;
+mod scan;
+mod scratch;
+
+pub(crate) use rows::ClauseRows;
+pub(crate) use scan::count_discharged;
+pub(crate) use scan::lowest_broken;
+pub(crate) use scratch::Scratch;
+
 ghost use Prim.Native.Nat.{ℕ, _+_, _-_, _≤_, _<_, _^_};
 ghost use mathlib.Core.Path.{_≡_};
 ghost use lib.ListN.{length};
-ghost use Rattle.round.specs.Rows.{at, Rows, rows, Body, Filled, Lawful-rows};
-ghost use Rattle.round.specs.Ranks.{Rank};
+ghost use Rattle.horn.specs.Sheets.{Lawful};
+ghost use Rattle.round.specs.Rows.{at, Rows, rows, rows-of, sheet-in, Body, Filled, Lawful-rows};
+ghost use Rattle.round.specs.Ranks.{Rank, Ranks};
+ghost use Rattle.round.specs.Scratch.{Ready};
 ghost use Rattle.round.specs.Steps.{zeros, Chained, Owned, Entered, Queued, Counted};
 
 // Clears a table.
@@ -221,71 +229,19 @@ fn seed(outcomes: &[u16], starts: &[u16], places: &[u16], count: &mut [u16], ran
     tail
 }
 
-// Fills `rank` with the length of each condition's shortest pebblings, 0 for a condition without one, in time linear in
-// the literals. The other rows are scratch.
-pub(crate) fn ranks(
-    outcomes: &[u16],
-    starts: &[u16],
-    places: &[u16],
-    rank: &mut [u16],
-    queue: &mut [u16],
-    first: &mut [u16],
-    next: &mut [u16],
-    owner: &mut [u16],
-    count: &mut [u16],
-)
-    requires lawful { ⌜ Lawful-rows (length (now rank)) (rows (now outcomes) (now starts) (now places)) ⌝ }
-    requires sizes { ⌜ (length (now rank) + 1 < 2 ^ 16) × (length (now places) < 2 ^ 16) × (length (now outcomes) < 2 ^ 16) ⌝ }
-    requires space { ⌜ (length (now rank) ≤ length (now queue)) × (length (now rank) ≤ length (now first)) ⌝ }
-    requires room { ⌜ (length (now places) ≤ length (now next)) × (length (now places) ≤ length (now owner)) × (length (now outcomes) ≤ length (now count)) ⌝ }
-    ensures { λ _. ⌜ ((p : ℕ) → 0 < p → Rank (rows (now (outcomes .entry)) (now (starts .entry)) (now (places .entry))) p (at (now (rank .exit)) p)) ⌝ }
+// Fills `rank` with each condition's rank, the length of its shortest pebblings, and 0 for a condition that is not in
+// force, in time linear in the literals.
+pub(crate) fn ranks(clauses: ClauseRows<'_>, rank: &mut [u16], scratch: &mut Scratch)
+    requires lawful { ⌜ Lawful-rows 1001 (rows-of clauses) ⌝ }
+    requires sizes { ⌜ (length (now rank) ≡ 1001) × (length (now (clauses .outcomes)) ≤ 2256) × (length (now (clauses .places)) ≤ 8256) ⌝ }
+    requires ready { ⌜ Ready (now scratch) ⌝ }
+    ensures ranked { λ _. ⌜ ((top : ℕ) → Lawful (sheet-in top (rows-of (clauses .entry))) → Ranks (sheet-in top (rows-of (clauses .entry))) (now (rank .exit))) ⌝ }
+    ensures ready { λ _. ⌜ Ready (now (scratch .exit)) ⌝ }
 {
     clear(rank);
-    clear(first);
-    chain(places, first, next);
-    own(outcomes, starts, places, owner);
-    let tail = seed(outcomes, starts, places, count, rank, queue);
-    spread(outcomes, starts, places, first, next, owner, count, rank, queue, tail);
-}
-
-
-// How many places hold a condition in force.
-pub(crate) fn count_struck(places: &[u16], rank: &[u16]) -> usize
-    requires { ⌜ ((j : ℕ) → j < length (now places) → at (now places) j < length (now rank)) ⌝ }
-    ensures { λ r. ⌜ r ≡ struck (now (rank .entry)) (now (places .entry)) ⌝ }
-{
-    let mut n = 0;
-    for j in 0..places.len() {
-        if rank[places[j] as usize] > 0 {
-            n += 1;
-        }
-    }
-    n
-}
-
-// Whether all places from `from` up to `end` hold conditions in force.
-fn all_met(from: usize, end: usize, places: &[u16], rank: &[u16]) -> bool
-    requires { ⌜ end ≤ length (now places) ⌝ }
-    requires { ⌜ ((j : ℕ) → j < length (now places) → at (now places) j < length (now rank)) ⌝ }
-    ensures { λ r. ⌜ When r ((j : ℕ) → from ≤ j → j < end → 0 < at (now (rank .entry)) (at (now (places .entry)) j)) ((j : ℕ) × (from ≤ j) × (j < end) × (at (now (rank .entry)) (at (now (places .entry)) j) ≡ 0)) ⌝ }
-{
-    for j in from..end {
-        if rank[places[j] as usize] == 0 {
-            return false;
-        }
-    }
-    true
-}
-
-// The lowest broken ban.
-pub(crate) fn lowest_broken(outcomes: &[u16], starts: &[u16], places: &[u16], rank: &[u16]) -> Option<usize>
-    requires { ⌜ Lawful-rows (length (now rank)) (rows (now outcomes) (now starts) (now places)) ⌝ }
-    ensures { λ r. ⌜ Lowest (rows (now (outcomes .entry)) (now (starts .entry)) (now (places .entry))) (now (rank .entry)) r ⌝ }
-{
-    for c in 0..outcomes.len() {
-        if outcomes[c] == 0 && all_met(starts[c] as usize, starts[c + 1] as usize, places, rank) {
-            return Some(c);
-        }
-    }
-    None
+    clear(&mut scratch.first);
+    chain(clauses.places, &mut scratch.first, &mut scratch.next);
+    own(clauses.outcomes, clauses.starts, clauses.places, &mut scratch.owner);
+    let tail = seed(clauses.outcomes, clauses.starts, clauses.places, &mut scratch.count, rank, &mut scratch.queue);
+    spread(clauses.outcomes, clauses.starts, clauses.places, &scratch.first, &scratch.next, &scratch.owner, &mut scratch.count, rank, &mut scratch.queue, tail);
 }

@@ -1,5 +1,13 @@
 // What the answers of a round mean: each contract below is a theorem, so the check asks for its proof.
+ghost use Rattle.round.specs.Determined.{Determined};
 ghost use Rattle.round.specs.Exact.{Opening-exact, Reports-exact};
+
+// Each call has exactly one answer.
+pub fn determined_stands() -> u8
+    ensures { λ _. ⌜ Determined ⌝ }
+{
+    0
+}
 
 // An opening is turned back as contradictory exactly when no choice satisfies the sheet, and names the lowest broken ban.
 pub fn opening_exact_stands() -> u8
