@@ -1,0 +1,13 @@
+pub mod Machine
+pub mod Sound
+pub mod Numbers
+pub mod Places
+pub mod Counting
+pub mod Trees
+pub mod Passes
+pub mod Meaning
+pub mod Scan
+pub mod Starts
+pub mod InPlace
+pub mod Pinned
+pub mod Lawfulness

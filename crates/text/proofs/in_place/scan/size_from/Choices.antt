@@ -1,0 +1,12 @@
+use Prim.Native.Nat.{_-_, _+_, _≤_}
+use mathlib.Core.Path.{_≡_}
+use mathlib.Core.Bool.{false}
+use lib.ListN.{length, drop}
+use Rattle.text.specs.Reading.{body-in}
+use Rattle.text.proofs.in_place.scan.size_from.Given as given
+
+abbrev pub Inv-loop-p : given.InvT-loop-p
+Inv-loop-p l = (l .n + length (body-in (l .neg) (drop (l .p) (l .s))) ≡ length (body-in false (drop (l .from) (l .s)))) × (l .n ≤ l .p)
+
+abbrev pub μ-loop-p : given.MeasureT-loop-p
+μ-loop-p l = length (l .s) - l .p

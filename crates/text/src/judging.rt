@@ -1,0 +1,33 @@
+// Judging a text.
+ghost use Rattle.text.specs.Verdicts.{Judged, One-answer};
+use crate::limits::Reader;
+use crate::states::form;
+use crate::verdict::Counts;
+use crate::verdict::Fault;
+
+// Judges a text: the numbers of its clauses, conditions and literals, or its first fault.
+pub fn judge(text: &[u8]) -> Result<Counts, Fault>
+    ensures { λ r. ⌜ Judged (now (text .entry)) r ⌝ }
+{
+    if text.len() > 60000 {
+        return Err(Fault::TooLong);
+    }
+    let (end, inside) = form(text);
+    let reader = Reader { bytes: text };
+    match reader.limits(end) {
+        Err(f) => Err(f),
+        Ok(counts) => {
+            if inside {
+                return Ok(counts);
+            }
+            Err(Fault::Outside(end))
+        }
+    }
+}
+
+// The contract of `judge` leaves no choice of its answer.
+pub fn judged_once() -> u8
+    ensures { λ _. ⌜ One-answer ⌝ }
+{
+    0
+}
