@@ -35,4 +35,4 @@ bit-of words q = getD words ((q - 1) / 32) 0 / 2 ^ ((q - 1) % 32) % 2
 pub record Reports-exact : Type 0 where
   pub asks : (s : Sheet) → Lawful s → satisfiable s ≡ true → (p n : ℕ) → Asks s p (ok (n ∷ []) []) → (n ≡ 1) ↔ Entails s p
   pub rolls : (s : Sheet) → Lawful s → satisfiable s ≡ true → (n : ℕ) (ns words : List ℕ) → Rolls s n (ok ns words)
-    → (q : ℕ) → 1 ≤ q → q ≤ s .top → (bit-of words q ≡ 1) ↔ Entails s q
+      → (q : ℕ) → 1 ≤ q → q ≤ s .top → (bit-of words q ≡ 1) ↔ Entails s q

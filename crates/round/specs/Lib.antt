@@ -3,6 +3,7 @@ pub mod Occurrences
 pub mod Ranks
 pub mod Steps
 pub mod Answers
+pub mod Exact
 pub mod Writing
 pub mod Held
 pub mod Replies
@@ -10,4 +11,3 @@ pub mod Good
 pub mod Sound
 pub mod Determined
 pub mod Scratch
-pub mod Exact

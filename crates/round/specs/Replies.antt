@@ -6,27 +6,10 @@ use lib.ListN.{drop}
 use Rattle.std.specs.declared.result.Result.{Result}
 use Rattle.std.specs.declared.result.Result.the-variants.{Ok, Err}
 use Rattle.horn.specs.Sheets.{Sheet, empty-sheet}
-use Rattle.round.specs.Answers.{Answer, ok, refused, words-for, roll-words}
+use Rattle.round.specs.Answers.{Answer, ok, words-for, roll-words}
+pub use Rattle.round.specs.Answers.{refusal, refusal-number, refusal-names}
 use Rattle.round.specs.declared.refusals.Refusal.{Refusal}
-use Rattle.round.specs.declared.refusals.Refusal.the-variants.{TooLarge, NoCondition, Contradiction, ShortBuffer}
 use Rattle.round.specs.declared.refusals.Opened.{Opened}
-
--- the number of a refusal
-abbrev pub refusal-number : Refusal → ℕ
-refusal-number TooLarge = 5
-refusal-number NoCondition = 6
-refusal-number (Contradiction n) = 8
-refusal-number ShortBuffer = 10
-
--- the ban that a refusal names, if any
-abbrev pub refusal-names : Refusal → List ℕ
-refusal-names TooLarge = []
-refusal-names NoCondition = []
-refusal-names (Contradiction n) = n ∷ []
-refusal-names ShortBuffer = []
-
-abbrev pub refusal : Refusal → Answer
-refusal e = refused (refusal-number e) (refusal-names e)
 
 -- what an opening answered
 abbrev pub opening-answer : Result Opened Refusal → Answer

@@ -4,7 +4,7 @@ use Prim.Native.Nat.{ℕ, _≤_}
 use lib.ListN.{length}
 use Rattle.std.specs.Of.Vec.{vec-items}
 use Rattle.std.proofs.shelf.Counted.{length-map-counting}
-use Rattle.horn.specs.Sheets.{Sheet}
+use Rattle.horn.specs.Sheets.{Sheet, Choice, Satisfies}
 use Rattle.horn.specs.Sources.{Lawful-source}
 use Rattle.horn.proofs.Lawfulness.{lawful-tested}
 use Rattle.round.specs.Rows.{clause-in}
@@ -28,3 +28,7 @@ state-lawful st g =
 
 pub round-lawful : (r : Round) → Lawful-source (round-sheet r)
 round-lawful r = state-lawful (r .state) (good (r .state) (r .ok) .stocked)
+
+-- No round exists whose clauses no choice satisfies.
+abbrev pub Satisfied : Type 0
+Satisfied = (r : Round) → (v : Choice (round-sheet r)) × Satisfies (round-sheet r) v
