@@ -34,7 +34,11 @@ fn run(rt: &LibcRuntime) -> Result<(), AnyError> {
     };
     let network_file = fs::read(rt, network_path.as_str())?;
     let show_file = fs::read(rt, show_path.as_str())?;
-    episode(rt, words::without_line_end(&network_file), words::without_line_end(&show_file))?;
+    episode(
+        rt,
+        words::without_line_end(&network_file),
+        words::without_line_end(&show_file),
+    )?;
     Ok(())
 }
 
@@ -45,7 +49,14 @@ fn episode(rt: &LibcRuntime, network_text: &[u8], show_text: &[u8]) -> io::Resul
     judged(rt, "The network's sheet", network_text, &network)?;
     judged(rt, "The show's sheet", show_text, &show)?;
     let mut round = Round::new(rt.alloc())?;
-    opened(rt, &mut round, &Joined { first: &network, second: &show })?;
+    opened(
+        rt,
+        &mut round,
+        &Joined {
+            first: &network,
+            second: &show,
+        },
+    )?;
     published(rt, &round)
 }
 
@@ -59,7 +70,10 @@ fn judged(rt: &LibcRuntime, name: &str, text: &[u8], sheet: &TextSheet<'_>) -> i
             let clauses = counts.clauses;
             let conditions = counts.conditions;
             let literals = counts.literals;
-            println!(rt, "  good: {clauses} clauses, conditions up to P{conditions}, {literals} literals")
+            println!(
+                rt,
+                "  good: {clauses} clauses, conditions up to P{conditions}, {literals} literals"
+            )
         }
         Err(fault) => refused(rt, fault),
     }
@@ -70,8 +84,14 @@ fn refused(rt: &LibcRuntime, fault: Fault) -> io::Result<()> {
     let number = fault.number();
     let why = words::of_fault(fault);
     match fault.place() {
-        Some(place) => println!(rt, "  refused with {number} at byte {place}: {why}; it counts as a sheet without clauses"),
-        None => println!(rt, "  refused with {number}: {why}; it counts as a sheet without clauses"),
+        Some(place) => println!(
+            rt,
+            "  refused with {number} at byte {place}: {why}; it counts as a sheet without clauses"
+        ),
+        None => println!(
+            rt,
+            "  refused with {number}: {why}; it counts as a sheet without clauses"
+        ),
     }
 }
 
@@ -82,14 +102,23 @@ fn opened<S: Source>(rt: &LibcRuntime, round: &mut Round, sheets: &S) -> io::Res
             let clauses = opened.clauses;
             let conditions = opened.conditions;
             let discharged = opened.discharged;
-            println!(rt, "Opened on both, the network's clauses first: {clauses} clauses, {conditions} conditions, {discharged} body places in force")
+            println!(
+                rt,
+                "Opened on both, the network's clauses first: {clauses} clauses, {conditions} conditions, {discharged} body places in force"
+            )
         }
         Err(Refusal::Contradiction(ban)) => {
-            println!(rt, "Not opened (8): the sheets contradict each other; clause {ban} is the lowest ban that is broken")
+            println!(
+                rt,
+                "Not opened (8): the sheets contradict each other; clause {ban} is the lowest ban that is broken"
+            )
         }
         Err(refusal) => {
             let number = refusal.number();
-            println!(rt, "Not opened ({number}): together the sheets have more than 2,000 clauses or 8,000 literals")
+            println!(
+                rt,
+                "Not opened ({number}): together the sheets have more than 2,000 clauses or 8,000 literals"
+            )
         }
     }
 }
@@ -101,7 +130,10 @@ fn published(rt: &LibcRuntime, round: &Round) -> io::Result<()> {
         return Ok(());
     };
     let conditions = round.conditions();
-    print!(rt, "The feed has {count} of {conditions} conditions in force:")?;
+    print!(
+        rt,
+        "The feed has {count} of {conditions} conditions in force:"
+    )?;
     for p in 1..conditions + 1 {
         if feed::is_set(&roll, p) {
             print!(rt, " P{p}")?;

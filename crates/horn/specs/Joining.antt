@@ -17,10 +17,11 @@ joined a b = record { top = max (a .top) (b .top); clauses = take 65535 (a .clau
 -- a clause stays lawful on a sheet with more conditions
 clause-grows : (s t : Sheet) → s .top ≤ t .top → (c : Clause) → Lawful-clause s c → Lawful-clause t c
 clause-grows s t h c w = record {
-    conditions = all-weaker (Condition s) (Condition t) (λ p v. (v .0, omega (arith, v .1))) (c .body) (w .conditions);
-    outcomes = λ q e. let v = w .outcomes q e in (v .0, omega (arith, v .1));
-    different = w .different;
-    something = w .something }
+  conditions = all-weaker (Condition s) (Condition t) (λ p v. (v .0, omega (arith, v .1))) (c .body) (w .conditions);
+  outcomes = λ q e. let v = w .outcomes q e in (v .0, omega (arith, v .1));
+  different = w .different;
+  something = w .something;
+}
 
 pub joined-lawful : (a b : Sheet) → Lawful-source a → Lawful-source b → Lawful-source (joined a b)
 joined-lawful a b la lb =
@@ -33,6 +34,7 @@ joined-lawful a b la lb =
       few-conditions = omega arith;
       few-clauses = omega (arith, length-take 65535 (a .clauses ++ b .clauses));
       lawful = all-take (Lawful-clause j) 65535 (a .clauses ++ b .clauses)
-        (all-append (Lawful-clause j) (a .clauses) (b .clauses)
+          (all-append (Lawful-clause j) (a .clauses) (b .clauses)
           (all-weaker (Lawful-clause a) (Lawful-clause j) (clause-grows a j ha) (a .clauses) (la .lawful))
-          (all-weaker (Lawful-clause b) (Lawful-clause j) (clause-grows b j hb) (b .clauses) (lb .lawful))) }
+          (all-weaker (Lawful-clause b) (Lawful-clause j) (clause-grows b j hb) (b .clauses) (lb .lawful)));
+    }

@@ -17,13 +17,6 @@ pub fn satisfied_stands() -> u8
     0
 }
 
-// Each call has exactly one answer.
-pub fn determined_stands() -> u8
-    ensures { λ _. ⌜ Determined ⌝ }
-{
-    0
-}
-
 // An opening is turned back as contradictory exactly when no choice satisfies the sheet, and names the lowest broken ban.
 pub fn opening_exact_stands() -> u8
     ensures { λ _. ⌜ Opening-exact ⌝ }

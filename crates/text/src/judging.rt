@@ -1,7 +1,5 @@
 // Judging a text.
-ghost use Rattle.text.specs.Verdicts.{Judged, One-answer};
-ghost use Rattle.text.specs.Accepted.{Accepted-exactly, One-meaning};
-ghost use Rattle.text.specs.Examples.{Worked-texts};
+ghost use Rattle.text.specs.Verdicts.{Judged};
 use crate::limits::Reader;
 use crate::states::form;
 use crate::verdict::Counts;
@@ -25,32 +23,4 @@ pub fn judge(text: &[u8]) -> Result<Counts, Fault>
             Err(Fault::Outside(end))
         }
     }
-}
-
-// The contract of `judge` leaves no choice of its answer.
-pub fn judged_once() -> u8
-    ensures { λ _. ⌜ One-answer ⌝ }
-{
-    0
-}
-
-// The good texts are those of the grammar whose clauses keep the limits.
-pub fn accepted_stands() -> u8
-    ensures { λ _. ⌜ Accepted-exactly ⌝ }
-{
-    0
-}
-
-// The bytes of a text fix its clauses.
-pub fn one_meaning_stands() -> u8
-    ensures { λ _. ⌜ One-meaning ⌝ }
-{
-    0
-}
-
-// Some texts and what judging answers of them.
-pub fn worked_texts_stand() -> u8
-    ensures { λ _. ⌜ Worked-texts ⌝ }
-{
-    0
 }

@@ -3,14 +3,11 @@ mod in_place;
 mod judging;
 mod limits;
 mod states;
+pub mod theorems;
 mod verdict;
 
 pub use in_place::TextSheet;
 pub use in_place::questions::TextSource;
-pub use judging::accepted_stands;
 pub use judging::judge;
-pub use judging::judged_once;
-pub use judging::one_meaning_stands;
-pub use judging::worked_texts_stand;
 pub use verdict::Counts;
 pub use verdict::Fault;

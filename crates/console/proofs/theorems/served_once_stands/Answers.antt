@@ -1,5 +1,5 @@
 use Rattle.console.proofs.Once.{served-once}
-use Rattle.console.proofs.theorems.served_once.Needs as need
+use Rattle.console.proofs.theorems.served_once_stands.Needs as need
 
 pub returns : need.returns
 returns c = served-once
