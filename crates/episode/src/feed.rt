@@ -5,7 +5,7 @@ ghost use Rattle.std.specs.Orderings.{When};
 ghost use Rattle.round.specs.Exact.{bit-of};
 
 // Whether the bit of condition p is set.
-pub fn is_set(words: &[u32], p: u16) -> bool
+pub(crate) fn is_set(words: &[u32], p: u16) -> bool
     requires { ⌜ 1 ≤ p ⌝ }
     ensures { λ r. ⌜ When r (bit-of (now (words .entry)) p ≡ 1) (bit-of (now (words .entry)) p ≡ 0) ⌝ }
 {

@@ -2,7 +2,7 @@
 use text::Fault;
 
 // What a fault means.
-pub fn of_fault(fault: Fault) -> &'static str {
+pub(crate) fn of_fault(fault: Fault) -> &'static str {
     match fault {
         Fault::TooLong => "the text has more than 60,000 bytes",
         Fault::Outside(_) => "no sheet goes on like this",
@@ -13,7 +13,7 @@ pub fn of_fault(fault: Fault) -> &'static str {
 }
 
 // A text without the line end that editors put after it.
-pub fn without_line_end(text: &[u8]) -> &[u8] {
+pub(crate) fn without_line_end(text: &[u8]) -> &[u8] {
     match text {
         [body @ .., b'\n'] => body,
         _ => text,

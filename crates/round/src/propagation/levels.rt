@@ -1,3 +1,4 @@
+// Ranks level by level: a breadth-first queue of ranked conditions, and a counter of open body places for each clause.
 ghost use Prim.Native.Nat.{ℕ, _+_, _≤_, _<_, _^_};
 ghost use Rattle.horn.specs.Sheets.{Lawful};
 ghost use Rattle.round.specs.Occurrences.{Linked, Owned};

@@ -1,3 +1,4 @@
+// Where each condition occurs in the bodies.
 ghost use Prim.Native.Nat.{ℕ, _≤_, _<_, _^_};
 ghost use Rattle.round.specs.Occurrences.{Chained, Owned, Linked};
 ghost use Rattle.round.specs.Rows.{at, rows-of, Filled, Lawful-rows};

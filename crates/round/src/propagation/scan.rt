@@ -1,3 +1,4 @@
+// What the ranks say of the bans and of the body places.
 ghost use Prim.Native.Nat.{ℕ, _≤_, _<_};
 ghost use Rattle.horn.specs.Bans.{discharged};
 ghost use Rattle.horn.specs.Sheets.{Lawful, all-of};

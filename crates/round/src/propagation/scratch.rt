@@ -1,3 +1,4 @@
+// The tables that propagation works in.
 ghost use Rattle.round.specs.Scratch.{Ready};
 ghost use Rattle.std.specs.Vec.{made};
 use std::alloc::AllocError;
