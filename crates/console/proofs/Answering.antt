@@ -3,7 +3,7 @@ use Prim.Native.Nat.{ℕ}
 use mathlib.Core.Path.{_≡_, refl, ap}
 use mathlib.Core.Bool.{Bool, true, false, cond}
 use mir.Val.{boolByte}
-use mathlib.Core.List.{List, [], _∷_, _++_}
+use mathlib.Core.List.{List, [], _++_}
 use native.Mathlib.Omega.{arith}
 use lib.ListN.{length}
 use Rattle.std.specs.Vec.{made}
@@ -11,7 +11,6 @@ use Rattle.std.specs.declared.result.Result.{Result}
 use Rattle.std.specs.declared.result.Result.the-variants.{Ok, Err}
 use Rattle.horn.specs.Sheets.{Sheet, empty-sheet}
 use Rattle.text.specs.Grammar.{Text, last, join, text}
-use Rattle.text.specs.Judging.{Good}
 use Rattle.text.specs.Reading.{Meant}
 use Rattle.console.specs.Lines.{Reply, line}
 use Rattle.console.specs.Serving.{Printed}

@@ -1,7 +1,7 @@
 -- An input has one reading, and one output.
 use Prim.Native.Nat.{ℕ, _+_, _*_, _/_, _%_, _≤_}
 use mathlib.Core.Path.{_≡_, refl, sym, ap, subst, _∙_}
-use mathlib.Core.Bool.{Bool, cond, _&&_}
+use mathlib.Core.Bool.{cond, _&&_}
 use mathlib.Core.List.{List, [], _∷_, _++_, append-assoc}
 use native.Mathlib.Omega.{arith}
 use lib.Dec.{eqb}
@@ -23,9 +23,9 @@ use Rattle.text.specs.Reading.{Meant}
 use Rattle.text.proofs.Pinned.{one-answer}
 use Rattle.round.specs.Answers.{Answer, Opens, Asks}
 use Rattle.round.proofs.Choosing.{determined}
-use Rattle.console.specs.Records.{Record, network, show, opening, asking, mark, bytes-of, all-bytes, Fitting, No-record, Parsed, Parsed-once}
+use Rattle.console.specs.Records.{Record, network, show, opening, asking, mark, bytes-of, all-bytes, Fitting, No-record, Parsed-once}
 use Rattle.console.specs.Lines.{Reply, line}
-use Rattle.console.specs.Session.{State, Judging, Opening, Asking, Step, Session, done, step, Served, Served-once, verdict-reply, kept, answer-reply, opened, ending, at-first}
+use Rattle.console.specs.Session.{State, Judging, Step, Session, done, step, Served-once, verdict-reply, kept, answer-reply, opened, ending, at-first}
 use Rattle.console.proofs.Parsing.{joined-bytes}
 
 -- the record at the front of the bytes, by its mark

@@ -1,21 +1,15 @@
 -- Records at the front of a list of bytes.
-use Prim.Native.Nat.{ℕ, _+_, _-_, _*_, _/_, _%_, _<_, _≤_}
-use mathlib.Core.Path.{_≡_, refl, sym, ap, subst, _∙_}
+use Prim.Native.Nat.{ℕ, _+_, _*_, _/_, _%_, _<_, _≤_}
+use mathlib.Core.Path.{_≡_, refl, ap, _∙_}
 use mathlib.Core.List.{List, [], _∷_, _++_}
 use native.Mathlib.Omega.{arith}
-use lib.ListN.{length, getD, take, drop, length-take, length-drop, length-append}
+use lib.ListN.{length, getD, take, drop, length-append}
 use Rattle.std.proofs.shelf.Lists.{take-append-drop, length-take-le}
 use Rattle.console.specs.Records.{Record, network, show, opening, asking, mark, two-bytes, bytes-of, No-record}
 
--- a number and its two bytes
+-- a number from its two bytes
 pub joined-bytes : (n : ℕ) → 256 * (n / 256) + n % 256 ≡ n
 joined-bytes n = omega arith
-
-pub high-byte : (hi lo : ℕ) → lo < 256 → (256 * hi + lo) / 256 ≡ hi
-high-byte hi lo h = omega arith
-
-pub low-byte : (hi lo : ℕ) → lo < 256 → (256 * hi + lo) % 256 ≡ lo
-low-byte hi lo h = omega arith
 
 pub front-two : (xs : List ℕ) → 2 ≤ length xs → xs ≡ getD xs 0 0 ∷ getD xs 1 0 ∷ drop 2 xs
 front-two [] h = absurd (omega arith)

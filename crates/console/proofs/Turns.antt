@@ -1,16 +1,15 @@
 -- One record more, and the end of the input.
-use Prim.Native.Nat.{ℕ, _+_, _-_, _<_}
+use Prim.Native.Nat.{ℕ, _-_, _<_}
 use mathlib.Core.Path.{_≡_, refl, sym, ap, subst, _∙_}
 use mathlib.Core.List.{List, [], _∷_, _++_, append-assoc}
 use native.Mathlib.Omega.{arith}
 use lib.Chars.{codes}
 use lib.ListN.{length, length-append}
-use Rattle.std.specs.shelf.Lists.{All, joined}
 use Rattle.std.proofs.shelf.Lists.{joined-more, append-nil}
 use Rattle.std.proofs.shelf.Elements.{all-append}
 use Rattle.console.specs.Records.{Record, network, show, opening, asking, mark, bytes-of, all-bytes, Fitting, No-record}
 use Rattle.console.specs.Lines.{Reply, refused, in-record, line}
-use Rattle.console.specs.Session.{State, Session, done, step, Step, Served, at-first, ending}
+use Rattle.console.specs.Session.{State, Session, done, step, Step, Served, at-first}
 use Rattle.console.specs.Serving.{So-far, Printed}
 
 -- a session and one step more

@@ -26,7 +26,7 @@ pub record Clause : Type 0 where
   pub body : List ℕ
   pub outcome : Option ℕ
 
--- A sheet: its greatest condition number, and its clauses, which count from 1.
+-- A sheet: how many conditions it has, which are the numbers from 1 to `top`, and its clauses, which count from 1.
 pub record Sheet : Type 0 where
   pub top : ℕ
   pub clauses : List Clause

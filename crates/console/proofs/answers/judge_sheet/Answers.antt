@@ -3,7 +3,7 @@ use mathlib.Core.List.{[], _∷_}
 use Rattle.std.specs.Of.String.{string-bytes}
 use Rattle.text.specs.InPlace.{text-sheet}
 use Rattle.console.specs.Lines.{accepted, refused, in-text, optional}
-use Rattle.console.specs.Session.{verdict-reply, kept}
+use Rattle.console.specs.Session.{Judging, verdict-reply, kept}
 use Rattle.console.proofs.Answering.{printed-by}
 use Rattle.console.proofs.answers.judge_sheet.Needs as need
 
@@ -27,7 +27,8 @@ pub returns-in-Err : need.returns-in-Err
 returns-in-Err c =
     let v = c .in-Err .ensures tt in
     printed-by (c .refuse .result) (c .args .name .now) (string-bytes (c .args .out .now)) (string-bytes (c .refuse .last .out))
-    (refused in-text (c .number .result) (optional (c .place .result))) _
+    (refused in-text (c .number .result) (optional (c .place .result)))
+    (λ y. Judging (c .args .bytes .now) (text-sheet (c .args .held .now)) y (text-sheet (c .args .held .now)))
     (record {
       verdict = c .in-Continue-sheet .sheet .verdict;
       sheet = text-sheet (c .in-Continue-sheet .sheet);

@@ -1,7 +1,7 @@
-use mathlib.Core.Path.{_≡_, ap, _∙_}
-use mathlib.Core.List.{List, [], _∷_, _++_, append-assoc}
+use mathlib.Core.Path.{_≡_}
+use mathlib.Core.List.{[], _∷_, _++_}
 use Rattle.std.specs.Of.String.{string-bytes}
-use Rattle.console.specs.Lines.{refused, line, layer-name, numbers, optional}
+use Rattle.console.specs.Lines.{refused, line, layer-name, optional}
 use Rattle.console.specs.Layers.{layer-of}
 use Rattle.console.proofs.Writing.{last-made, refused-line}
 use Rattle.console.proofs.lines.refuse.Needs as need
