@@ -4,6 +4,7 @@ use horn::joined::Joined;
 use horn::joined::JoinedSource;
 use horn::source::LentSource;
 use horn::source::Source;
+use round::Opened;
 use round::Refusal;
 use round::Round;
 use round::RoundSource;
@@ -49,15 +50,17 @@ fn episode(rt: &LibcRuntime, network_text: &[u8], show_text: &[u8]) -> io::Resul
     judged(rt, "The network's sheet", network_text, &network)?;
     judged(rt, "The show's sheet", show_text, &show)?;
     let mut round = Round::new(rt.alloc())?;
-    opened(
-        rt,
-        &mut round,
-        &Joined {
-            first: &network,
-            second: &show,
-        },
-    )?;
-    published(rt, &round)
+    let both = Joined {
+        first: &network,
+        second: &show,
+    };
+    match round.open(&both) {
+        Ok(answer) => {
+            opened(rt, answer)?;
+            published(rt, &round)
+        }
+        Err(refusal) => turned_back(rt, refusal),
+    }
 }
 
 // Prints a sheet and what judging it answered.
@@ -72,7 +75,7 @@ fn judged(rt: &LibcRuntime, name: &str, text: &[u8], sheet: &TextSheet<'_>) -> i
             let literals = counts.literals;
             println!(
                 rt,
-                "  good: {clauses} clauses, conditions up to P{conditions}, {literals} literals"
+                "  good: clauses {clauses}, conditions up to P{conditions}, literals {literals}"
             )
         }
         Err(fault) => refused(rt, fault),
@@ -95,31 +98,29 @@ fn refused(rt: &LibcRuntime, fault: Fault) -> io::Result<()> {
     }
 }
 
-// Opens the round and prints what that answered.
-fn opened<S: Source>(rt: &LibcRuntime, round: &mut Round, sheets: &S) -> io::Result<()> {
-    match round.open(sheets) {
-        Ok(opened) => {
-            let clauses = opened.clauses;
-            let conditions = opened.conditions;
-            let discharged = opened.discharged;
-            println!(
-                rt,
-                "Opened on both, the network's clauses first: {clauses} clauses, {conditions} conditions, {discharged} body places in force"
-            )
-        }
-        Err(Refusal::Contradiction(ban)) => {
-            println!(
-                rt,
-                "Not opened (8): the sheets contradict each other; clause {ban} is the lowest ban that is broken"
-            )
-        }
-        Err(refusal) => {
-            let number = refusal.number();
-            println!(
-                rt,
-                "Not opened ({number}): together the sheets have more than 2,000 clauses or 8,000 literals"
-            )
-        }
+// Prints what an accepted opening answered.
+fn opened(rt: &LibcRuntime, answer: Opened) -> io::Result<()> {
+    let clauses = answer.clauses;
+    let conditions = answer.conditions;
+    let discharged = answer.discharged;
+    println!(
+        rt,
+        "Opened on both, the network's clauses first: clauses {clauses}, conditions {conditions}, body places in force {discharged}"
+    )
+}
+
+// Prints why the sheets could not be opened together.
+fn turned_back(rt: &LibcRuntime, refusal: Refusal) -> io::Result<()> {
+    let number = refusal.number();
+    match refusal {
+        Refusal::Contradiction(ban) => println!(
+            rt,
+            "Refused with {number}: the clauses contradict each other; clause {ban}, the network's counted first, is the lowest ban that is broken. Nothing is published."
+        ),
+        _ => println!(
+            rt,
+            "Refused with {number}: together the sheets have more than 2,000 clauses or 8,000 literals. Nothing is published."
+        ),
     }
 }
 
@@ -130,10 +131,7 @@ fn published(rt: &LibcRuntime, round: &Round) -> io::Result<()> {
         return Ok(());
     };
     let conditions = round.conditions();
-    print!(
-        rt,
-        "The feed has {count} of {conditions} conditions in force:"
-    )?;
+    print!(rt, "The feed, {count} of {conditions} conditions in force:")?;
     for p in 1..conditions + 1 {
         if feed::is_set(&roll, p) {
             print!(rt, " P{p}")?;
