@@ -92,9 +92,6 @@ mem L p = any-of (λ x. eqb x p) L
 pub all-by-mem : (P : ℕ → Type 0) (L : List ℕ) → ((p : ℕ) → mem L p ≡ true → P p) → All P L
 all-by-mem P L h = all-by-nth P L (λ i x e. h x (any-from (λ y. eqb y x) L i x e (eq-eqb x x refl)))
 
-pub mem-push-old : (L : List ℕ) (x p : ℕ) → mem L p ≡ true → mem (L ++ x ∷ []) p ≡ true
-mem-push-old L x p h = any-append (λ y. eqb y p) L (x ∷ []) ∙ or-left (mem L p) (mem (x ∷ []) p) h
-
 pub mem-push-cases : (L : List ℕ) (x p : ℕ) → mem (L ++ x ∷ []) p ≡ true → (mem L p ≡ true) ⊎ (x ≡ p)
 mem-push-cases L x p h = ⊎-elim inl (λ (k : (eqb x p || false) ≡ true). ⊎-elim (λ (e : eqb x p ≡ true). inr (eqb-true x p e)) (λ (e : false ≡ true). absurd (both-ways false refl e)) (or-cases (eqb x p) false k)) (or-cases (mem L p) (mem (x ∷ []) p) (sym (any-append (λ y. eqb y p) L (x ∷ [])) ∙ h))
 

@@ -165,10 +165,6 @@ pub levels-hold : Claims.Levels-hold
 levels-hold s q ns h = in-level s ns (h .steps) q (ends-given s q ns h)
 
 -- the least number that passes a test
-pub least-le : (f : ℕ → Bool) (n : ℕ) → least f n ≤ n
-least-le f zero = omega arith
-least-le f (suc n) = let h = least-le (λ k. f (suc k)) n in elim (f zero) as (λ b. cond b zero (suc (least (λ k. f (suc k)) n)) ≤ suc n) [ true ↦ omega arith | false ↦ omega arith ]
-
 pub least-below : (f : ℕ → Bool) (n k : ℕ) → f k ≡ true → least f n ≤ k
 least-below f zero k h = omega arith
 least-below f (suc n) zero h = rw h (omega arith)

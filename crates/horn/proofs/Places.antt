@@ -28,11 +28,6 @@ module _ {X : Type 0} where
   nth-take (suc n) (x ∷ xs) zero h = refl
   nth-take (suc n) (x ∷ xs) (suc i) h = nth-take n xs i (omega arith)
 
-  pub nth-beyond : (xs : List X) (i : ℕ) → length xs ≤ i → nth xs i ≡ None
-  nth-beyond [] i h = refl
-  nth-beyond (x ∷ xs) zero h = absurd (omega arith)
-  nth-beyond (x ∷ xs) (suc i) h = nth-beyond xs i (omega arith)
-
 -- the clauses of a join
 module _ (a b : Sheet) (n i : ℕ) (e : n ≡ length (a .clauses)) (h : i < 65536) where
   pub in-first : i ≤ n → clause-at a i ≡ clause-at (joined a b) i

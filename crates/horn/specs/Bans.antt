@@ -14,9 +14,13 @@ abbrev pub no-outcome : Option ℕ → Bool
 no-outcome None = true
 no-outcome (Some q) = false
 
+-- by the test, the clause is a ban whose conditions all pass
+abbrev pub breaks : (ℕ → Bool) → Clause → Bool
+breaks f c = no-outcome (c .outcome) && all-of f (c .body)
+
 -- the number of the lowest ban that is broken, past the last clause if there is none
 abbrev pub lowest-broken : Sheet → ℕ
-lowest-broken s = first (λ c. no-outcome (c .outcome) && all-of (in-force s) (c .body)) (s .clauses)
+lowest-broken s = first (breaks (in-force s)) (s .clauses)
 
 pub record Lowest-broken (s : Sheet) (n : ℕ) : Type 0 where
   pub broken : Broken s n

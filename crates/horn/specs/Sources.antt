@@ -2,13 +2,12 @@
 -- Clauses and places count from 1; at 0 or beyond the last one the answer is absent.
 use Prim.Native.Nat.{ℕ, zero, suc, _≤_}
 use mathlib.Core.List.{List}
-use native.Mathlib.Omega.{arith}
 use lib.ListN.{length}
 use Rattle.std.specs.Options.{mapped}
 use Rattle.std.specs.Finite.{nth}
 use Rattle.std.specs.declared.option.Option.{Option}
 use Rattle.std.specs.declared.option.Option.the-variants.{Some, None}
-use Rattle.horn.specs.Sheets.{Sheet, Clause, Lawful, clause-at, outcome-number, empty-sheet}
+use Rattle.horn.specs.Sheets.{Sheet, Clause, Lawful, clause-at, outcome-number}
 
 -- A sheet that a source may mean: at most 1,000 conditions, at most 65,535 clauses, and only clauses over these conditions.
 pub record Lawful-source (s : Sheet) : Type 0 where
@@ -36,6 +35,3 @@ place-of (Some c) j = at-place (c .body) j
 -- the condition at place j of the body of clause i
 abbrev pub condition-at : Sheet → ℕ → ℕ → Option ℕ
 condition-at s i j = place-of (clause-at s i) j
-
-pub empty-lawful : Lawful-source empty-sheet
-empty-lawful = record { few-conditions = omega arith; few-clauses = omega arith; lawful = tt }

@@ -14,7 +14,7 @@ use Rattle.std.proofs.shelf.Tests.{cases-eq, cases-bool, and-parts, and-from, o
 use Rattle.horn.specs.Sheets.{Sheet, Clause, Condition, Lawful, Lawful-clause, all-of, any-of, satisfies, holds-outcome, clause-at}
 use Rattle.horn.specs.Pebblings.{In-force, Broken}
 use Rattle.horn.specs.Levels.{in-force, first}
-use Rattle.horn.specs.Bans.{no-outcome, tally, places, discharged}
+use Rattle.horn.specs.Bans.{no-outcome, breaks, tally, places, discharged}
 use Rattle.horn.specs.Lawfulness.{satisfiable}
 use Rattle.horn.proofs.Tests.{none-some, all-true, all-from, all-nth}
 use Rattle.horn.proofs.Forced.{none-lacked}
@@ -23,10 +23,6 @@ use Rattle.round.specs.Rows.{at, Rows, Filled, kept-outcome, clause-in, clause
 use Rattle.round.specs.Ranks.{Ranks, Scanned, ranked}
 use Rattle.round.proofs.Meaning.{clause-here, here-clause, in-force-ranked}
 use Rattle.round.proofs.Sets.{split}
-
--- by the test, the clause is a ban whose conditions all pass
-abbrev pub breaks : (ℕ → Bool) → Clause → Bool
-breaks f c = no-outcome (c .outcome) && all-of f (c .body)
 
 -- two tests that agree on the conditions
 module _ (s : Sheet) (f g : ℕ → Bool) (same : (p : ℕ) → Condition s p → f p ≡ g p) where

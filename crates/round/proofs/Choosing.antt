@@ -54,7 +54,7 @@ refusals a b e =
     let ns : refusal-names a ≡ refusal-names b = cc in
     sym (refusal-back a) ∙ ap₂ refusal-from n ns ∙ refusal-back b
 
-ok-refused : {ns ws ms : List ℕ} {n : ℕ} → ok ns ws ≡ refused n ms → ⊥
+pub ok-refused : {ns ws ms : List ℕ} {n : ℕ} → ok ns ws ≡ refused n ms → ⊥
 ok-refused e = let z : _≡_ {A = ℕ} 0 1 = cc in omega arith
 
 openings : Faithful opening-answer

@@ -15,10 +15,8 @@ use Rattle.horn.proofs.Entailment.{entailed, in-force-has, in-force-is}
 use Rattle.horn.proofs.Lawfulness.{satisfiable-tested}
 use Rattle.round.specs.Answers.{Answer, ok, refused, Opens, Asks, Rolls, roll-words}
 use Rattle.round.specs.Exact.{Unsatisfiable, Entails, Contradicts, bit-of, Opening-exact, Reports-exact}
+use Rattle.round.proofs.Choosing.{ok-refused}
 use Rattle.round.proofs.Words.{rolled}
-
-pub ok-refused : {ns w b : List ℕ} {n : ℕ} → ok ns w ≡ refused n b → ⊥
-ok-refused e = let z : _≡_ {A = ℕ} 0 1 = cc in omega arith
 
 refused-number : {i j : ℕ} {x y : List ℕ} → refused i x ≡ refused j y → i ≡ j
 refused-number e = cc

@@ -20,9 +20,6 @@ starts-mono t w a b h l =
     let e : at (t .starts) (a + (b - a)) ≡ at (t .starts) b = ap (at (t .starts)) (omega arith) in
     omega (arith, starts-up t w a (b - a) (omega arith))
 
-pub owned-none : (t : Rows) → Filled t → (owner : List ℕ) → Owned t 0 (at (t .starts) 0) owner
-owned-none t w owner = record { is = λ c j h b. absurd (omega arith); within = λ j h. absurd (omega (arith, w .begins)) }
-
 pub owned-more : (t : Rows) → Filled t → (c : ℕ) (owner owner′ : List ℕ) → c < length (t .outs)
     → Owned t c (at (t .starts) c) owner
     → ((j : ℕ) → at (t .starts) c ≤ j → j < at (t .starts) (c + 1) → at owner′ j ≡ c)

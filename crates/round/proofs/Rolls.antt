@@ -66,14 +66,6 @@ how-many-add f n (suc m) =
     one true = omega arith
     one false = omega arith
 
-pub how-many-le : (f : ℕ → Bool) (n : ℕ) → how-many f n ≤ n
-how-many-le f zero = omega arith
-how-many-le f (suc n) = go (f (suc n)) (how-many-le f n)
-  where
-    go : (b : Bool) → how-many f n ≤ n → cond b (suc (how-many f n)) (how-many f n) ≤ suc n
-    go true h = omega arith
-    go false h = omega arith
-
 pub and-true : (b c : Bool) → c ≡ true → (b && c) ≡ b
 and-true true c e = e
 and-true false c e = refl

@@ -9,16 +9,11 @@ use native.Mathlib.Nat.{add-mul-div-right, div-eq-of-lt}
 use lib.Dec.{leb}
 use lib.ListN.{length, getD}
 use Rattle.std.proofs.shelf.Bits.{pow-pos, pow-add, shr-high}
-use Rattle.std.proofs.shelf.Lists.{getD-append-left, getD-push, length-push}
+use Rattle.std.proofs.shelf.Lists.{getD-append-left, getD-push}
 use Rattle.std.proofs.shelf.Tests.{cases-lt, le-leb}
 use Rattle.round.specs.Answers.{words-for, bits, words-of, roll-words}
 use Rattle.round.specs.Exact.{bit-of}
-
-bits-below : (f : ℕ → Bool) (first n : ℕ) → bits f first n < 2 ^ n
-bits-below f first zero = omega arith
-bits-below f first (suc n) =
-    let h = bits-below f first n in
-    elim (f (first + n)) as (λ b. bits f first n + cond b (2 ^ n) 0 < 2 ^ suc n) [ true ↦ omega arith | false ↦ omega arith ]
+use Rattle.round.proofs.Rolls.{and-true, bits-lt, length-words}
 
 -- a multiple of 2 ^ n more leaves the lower bits
 low-same : (b n i : ℕ) → i < n → (b + 2 ^ n) / 2 ^ i % 2 ≡ b / 2 ^ i % 2
@@ -44,21 +39,17 @@ bit-is f first (suc n) i l = ⊎-elim (λ (h : i < n). low h (bit-is f first n i
     ]
 
     top : (b : Bool) → (B + cond b (2 ^ n) 0) / 2 ^ n % 2 ≡ cond b 1 0
-    top true = let e : (B + 2 ^ n) / 2 ^ n ≡ 1 = ap (λ (x : ℕ). x / 2 ^ n) (let z : B + 2 ^ n ≡ 1 * 2 ^ n + B = omega arith in z) ∙ shr-high 1 n B (bits-below f first n) in rw e refl
-    top false = let e : (B + 0) / 2 ^ n ≡ 0 = ap (λ (x : ℕ). x / 2 ^ n) (let z : B + 0 ≡ B = omega arith in z) ∙ div-eq-of-lt (bits-below f first n) in rw e refl
+    top true = let e : (B + 2 ^ n) / 2 ^ n ≡ 1 = ap (λ (x : ℕ). x / 2 ^ n) (let z : B + 2 ^ n ≡ 1 * 2 ^ n + B = omega arith in z) ∙ shr-high 1 n B (bits-lt f first n) in rw e refl
+    top false = let e : (B + 0) / 2 ^ n ≡ 0 = ap (λ (x : ℕ). x / 2 ^ n) (let z : B + 0 ≡ B = omega arith in z) ∙ div-eq-of-lt (bits-lt f first n) in rw e refl
 
     high : i ≡ n → (B + cond (f (first + n)) (2 ^ n) 0) / 2 ^ i % 2 ≡ cond (f (first + i)) 1 0
     high e = rw e (top (f (first + n)))
 
-words-length : (f : ℕ → Bool) (n : ℕ) → length (words-of f n) ≡ n
-words-length f zero = refl
-words-length f (suc n) = length-push (words-of f n) (bits f (32 * n + 1) 32) ∙ (let h = words-length f n in omega arith)
-
 word-is : (f : ℕ → Bool) (n w : ℕ) → w < n → getD (words-of f n) w 0 ≡ bits f (32 * w + 1) 32
 word-is f zero w l = let z : ⊥ = omega arith in absurd z
 word-is f (suc n) w l = ⊎-elim
-    (λ (h : w < n). getD-append-left (words-of f n) (bits f (32 * n + 1) 32 ∷ []) 0 w (let k = words-length f n in omega arith) ∙ word-is f n w h)
-    (λ (h : n ≤ w). let e : n ≡ w = omega arith in getD-push (words-of f n) (bits f (32 * n + 1) 32) 0 w (words-length f n ∙ e) ∙ ap (λ (x : ℕ). bits f (32 * x + 1) 32) e)
+    (λ (h : w < n). getD-append-left (words-of f n) (bits f (32 * n + 1) 32 ∷ []) 0 w (let k = length-words f n in omega arith) ∙ word-is f n w h)
+    (λ (h : n ≤ w). let e : n ≡ w = omega arith in getD-push (words-of f n) (bits f (32 * n + 1) 32) 0 w (length-words f n ∙ e) ∙ ap (λ (x : ℕ). bits f (32 * x + 1) 32) e)
     (cases-lt w n)
 
 -- The bit of a condition in the roll of a set is 1 where the set holds it, else 0.
@@ -70,8 +61,4 @@ rolled f top q a b =
     let e : getD (roll-words f top) w 0 ≡ bits g (32 * w + 1) 32 = word-is g (words-for top) w (omega arith) in
     let h : getD (roll-words f top) w 0 / 2 ^ i % 2 ≡ cond (g (32 * w + 1 + i)) 1 0 = ap (λ (x : ℕ). x / 2 ^ i % 2) e ∙ bit-is g (32 * w + 1) 32 i (omega arith) in
     let n : 32 * w + 1 + i ≡ q = omega arith in
-    h ∙ ap (λ (x : Bool). cond x 1 0) (ap g n ∙ ap (λ (x : Bool). f q && x) (le-leb q top b) ∙ and-true (f q))
-  where
-    and-true : (x : Bool) → (x && true) ≡ x
-    and-true true = refl
-    and-true false = refl
+    h ∙ ap (λ (x : Bool). cond x 1 0) (ap g n ∙ and-true (f q) (leb q top) (le-leb q top b))

@@ -44,9 +44,6 @@ outcome-negs : (ns : NegLits) (s : List ℕ) → outcome-in false (neg-lits ns s
 outcome-negs (one n) s = past-number (outcome-in false) outcome-passes n s
 outcome-negs (more n ns) s = past-number (outcome-in false) outcome-passes n (124 ∷ neg-lits ns s) ∙ outcome-negs ns s
 
-nil-right : (l : List ℕ) → l ++ [] ≡ l
-nil-right l = append-nil l
-
 clause-inside : (c : Basic) (s : List ℕ) → clause-in (inside c (41 ∷ s)) ≡ clause c
 clause-inside (fact n) s = same (past-number (body-in false) body-passes n (41 ∷ s)) (ap Some (lead-number n 41 s refl))
   where

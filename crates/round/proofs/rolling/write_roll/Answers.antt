@@ -7,7 +7,8 @@ use lib.ListN.{length, drop}
 use Rattle.horn.specs.Levels.{how-many}
 use Rattle.round.specs.Answers.{words-of, words-for, up-to}
 use Rattle.round.specs.Ranks.{ranked}
-use Rattle.round.proofs.Rolls.{words-more, count-more, ones-few, how-many-le, how-many-up-to}
+use Rattle.horn.proofs.Levels.{how-many-le}
+use Rattle.round.proofs.Rolls.{words-more, count-more, ones-few, how-many-up-to}
 use Rattle.round.proofs.rolling.write_roll.Needs as need
 
 pub add-n : need.add-n

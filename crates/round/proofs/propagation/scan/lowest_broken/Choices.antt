@@ -3,7 +3,7 @@ use mathlib.Core.Path.{_≡_}
 use mathlib.Core.Bool.{false}
 use Rattle.round.specs.Rows.{rows-of, clause-in}
 use Rattle.round.specs.Ranks.{ranked}
-use Rattle.round.proofs.Bans.{breaks}
+use Rattle.horn.specs.Bans.{breaks}
 use Rattle.round.proofs.propagation.scan.lowest_broken.Given as given
 
 abbrev pub Inv-loop-c : given.InvT-loop-c
