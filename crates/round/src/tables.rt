@@ -13,6 +13,8 @@ ghost use Rattle.round.specs.Rows.{rows-of};
 ghost use Rattle.round.specs.Writing.{Writing, unfinished};
 ghost use Rattle.round.specs.Held.{held-rows, held-sheet, Roomy, Placed, Ended, body-at, Copied, Emptied, Holds};
 use crate::propagation::ClauseRows;
+use horn::limits::MAX_CLAUSES;
+use horn::limits::MAX_LITERALS;
 use horn::source::Source;
 use std::alloc::AllocError;
 use std::alloc::Global;
@@ -198,7 +200,7 @@ impl Tables {
         ensures refused { λ r. ⌜ (r ≡ false → Too-large (S·Source .sheet (now (source .entry)))) ⌝ }
     {
         let m = source.clauses();
-        if m > 2000 {
+        if m > MAX_CLAUSES {
             return false;
         }
         let mut used = 0u32;
@@ -206,7 +208,7 @@ impl Tables {
             let n = source.body_len(k + 1).unwrap_or(0);
             let o = source.outcome(k + 1).unwrap_or(0);
             let more = n as u32 + o.min(1) as u32;
-            if used + more > 8000 {
+            if used + more > MAX_LITERALS as u32 {
                 return false;
             }
             self.copy_body(source, k + 1, n);

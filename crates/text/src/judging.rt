@@ -4,12 +4,13 @@ use crate::limits::Reader;
 use crate::states::form;
 use crate::verdict::Counts;
 use crate::verdict::Fault;
+use horn::limits::MAX_TEXT;
 
 // Judges a text: the numbers of its clauses, conditions and literals, or its first fault.
 pub fn judge(text: &[u8]) -> Result<Counts, Fault>
     ensures { λ r. ⌜ Judged (now (text .entry)) r ⌝ }
 {
-    if text.len() > 60000 {
+    if text.len() > MAX_TEXT {
         return Err(Fault::TooLong);
     }
     let (end, inside) = form(text);

@@ -9,6 +9,9 @@ ghost use Rattle.text.specs.Judging.{run-value, Negated, Too-great, Too-many, 
 ghost use Rattle.text.specs.Limits.{Read, Wrong, Lowest, Counted, Stamped, Limits, lead-value};
 use crate::verdict::Counts;
 use crate::verdict::Fault;
+use horn::limits::MAX_CLAUSES;
+use horn::limits::MAX_CONDITION;
+use horn::limits::MAX_LITERALS;
 
 // A text, read in place.
 #[derive(Clone, Copy)]
@@ -83,7 +86,7 @@ impl Reader<'_> {
         match self.condition(i) {
             None => None,
             Some(n) => {
-                if n > 1000 {
+                if n > MAX_CONDITION {
                     return Some(Fault::TooGreat(i));
                 }
                 if !self.negated(i) {
@@ -142,13 +145,13 @@ impl Reader<'_> {
         ensures { λ r. ⌜ When r (Too-many (now (now (self .entry) .bytes)) i) (Too-many (now (now (self .entry) .bytes)) i → ⊥) ⌝ }
     {
         match self.bytes[i] as char {
-            '(' => clauses == 2000,
-            '~' => literals == 8000,
+            '(' => clauses == MAX_CLAUSES,
+            '~' => literals == MAX_LITERALS,
             'P' => {
                 if self.negated(i) {
                     return false;
                 }
-                literals == 8000
+                literals == MAX_LITERALS
             }
             _ => false,
         }

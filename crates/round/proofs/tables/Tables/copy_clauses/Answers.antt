@@ -14,11 +14,11 @@ use Rattle.round.proofs.Growing.{filled-writing, filled-unfinished, writing-fi
 use Rattle.round.proofs.Copying.{nothing, here, literals-take, size-here, outcome-here, same-clause, used-more}
 use Rattle.round.proofs.tables.Tables.copy_clauses.Needs as need
 
-pub returns-then-m-gt2000 : need.returns-then-m-gt2000
-returns-then-m-gt2000 g c = record {
+pub returns-then-m-gt-MAX-CLAUSES : need.returns-then-m-gt-MAX-CLAUSES
+returns-then-m-gt-MAX-CLAUSES g c = record {
   roomy = c .pre .roomy;
   kept = λ e. absurd (let z : _≡_ {A = ℕ} 0 1 = cc in omega arith);
-  refused = λ e. inl (omega (arith, c .clauses-m .ensures, c .if-m-gt2000 .taken));
+  refused = λ e. inl (omega (arith, c .clauses-m .ensures, c .if-m-gt-MAX-CLAUSES .taken));
 }
 
 pub loop-k-holds : need.loop-k-holds
@@ -46,8 +46,8 @@ loop-k-holds g c =
       ),
     )
 
-pub returns-then-used-more-gt8000 : need.returns-then-used-more-gt8000
-returns-then-used-more-gt8000 g c =
+pub returns-then-used-more : need.returns-then-used-more
+returns-then-used-more g c =
     let s : Sheet = g .S·Source .sheet (c .args .source .now) in
     let w : Lawful s = g .S·Source .lawful (c .args .source .now) .lawful in
     let k : ℕ = c .loop-k .k in
@@ -59,7 +59,7 @@ returns-then-used-more-gt8000 g c =
     record {
       roomy = v .1 .0;
       kept = λ e. absurd (let z : _≡_ {A = ℕ} 0 1 = cc in omega arith);
-      refused = λ e. inr (omega (arith, u, literals-take (k + 1) (s .clauses), c .if-used-more-gt8000 .taken));
+      refused = λ e. inr (omega (arith, u, literals-take (k + 1) (s .clauses), c .if-used-more .taken));
     }
 
 pub copy-body-requires : need.copy-body-requires
@@ -73,7 +73,7 @@ copy-body-requires g c κs =
     record {
       writing = v .0;
       roomy = v .1 .0;
-      room = omega (arith, v .1 .1 .1 .1 .1 .0, c .if-used-more-gt8000 .left);
+      room = omega (arith, v .1 .1 .1 .1 .1 .0, c .if-used-more .left);
       size = ap (mapped (λ (x : Clause). length (x .body))) (here s k lt) ∙ ap Some (sym n);
       fresh = v .1 .1 .1 .0;
     }
@@ -103,7 +103,7 @@ loop-k-again g c =
               (
                 omega (arith, e .places-count, b .places, v .1 .1 .1 .1 .1 .0),
                 (
-                  c .if-used-more-gt8000 .left,
+                  c .if-used-more .left,
                   u,
                 ),
               ),
