@@ -4,7 +4,7 @@ use Rattle.std.proofs.Common.{◌≡◌, ℕ, zero, suc, ◌+◌, ◌-◌, ◌<�
 use Rattle.std.specs.List.{slice_get, AllByRecursion as All}
 use Rattle.std.proofs.lemmas.List.{map_push, get_or_push, length_push, append_assoc, append-nil}
 use Rattle.std.proofs.ByRecursion.{All-weaker, All-push}
-use Rattle.std.proofs.lemmas.Bool.{and_parts, and_from, or_cases, or_left, or_right, or_from, both_ways, cases_lt, cases_Bool, eqb-true, eqb-false, eq-eqb, ne_eqb, lt-ltb, ltb-true, cond_true, cond_false}
+use Rattle.std.proofs.lemmas.Bool.{and_parts, and_from, or_cases, or_left, or_right, or_from, both_ways, cases_lt, cases_Bool, eqb-true, eqb-false, eq-eqb, ne_eqb, lt-ltb, ltb-true, cond-true, cond-false}
 use Rattle.horn.specs.Sheets.{all_of, any_of, Clause, Sheet, Lawful, Condition, gives, is, clause_at, outcome_of, body_of}
 use Rattle.horn.specs.Pebblings.{step_gives, given, Allowed, Steps, Pebbling, InForce, longest, lengths, lengths_from, lengths_after}
 use Rattle.horn.specs.Levels.{level, least, rank, first, explains, chosen, chosen_body, reaches, needed, listed, ordered, explanation, Before, Sorted}
@@ -31,10 +31,10 @@ first_is {X} f (x ∷ xs) h = step (f x) refl (first_is f xs)
     before r e (suc j) y l k = r.lowest j y (omega arith) k
 
     step : (b : Bool) → f x ≡ b → (any_of f xs ≡ true → First f xs) → First f (x ∷ xs)
-    step true e ih = record { at = 0; it = x; number = cond_true (f x) (suc zero) (suc (first f xs)) e; is_at = refl; passes = e; lowest = λ j y l k. let w : ⊥ = omega arith in absurd w }
+    step true e ih = record { at = 0; it = x; number = cond-true (f x) (suc zero) (suc (first f xs)) e; is_at = refl; passes = e; lowest = λ j y l k. let w : ⊥ = omega arith in absurd w }
     step false e ih =
         let r : First f xs = ih (⊎_elim (λ k. absurd (both_ways _ e k)) (λ k. k) (or_cases (f x) (any_of f xs) h)) in
-        record { at = suc r.at; it = r.it; number = cond_false (f x) (suc zero) (suc (first f xs)) e ∙ ap suc r.number; is_at = r.is_at; passes = r.passes; lowest = before r e }
+        record { at = suc r.at; it = r.it; number = cond-false (f x) (suc zero) (suc (first f xs)) e ∙ ap suc r.number; is_at = r.is_at; passes = r.passes; lowest = before r e }
 
 -- the chosen clause of a condition in force
 pub record Choosing (s : Sheet) (p : ℕ) : Type 0 where

@@ -70,7 +70,7 @@ held s v keeps = steps_ind s (λ ns. (p : ℕ) → given s ns p ≡ true → v p
 
 -- the last step's outcome is given
 pub ends_given : (s : Sheet) (q : ℕ) (ns : List ℕ) → Pebbling s q ns → given s ns q ≡ true
-ends_given s q ns h = any_from (λ m. step_gives s m q) ns (length ns - 1) (get_or ns (length ns - 1) 0) (Rattle.std.proofs.lemmas.Option.slice_get_get_or ns (length ns - 1) 0 (let k = h.some_step in omega arith)) h.ends
+ends_given s q ns h = any_from (λ m. step_gives s m q) ns (length ns - 1) (get_or ns (length ns - 1) 0) (Rattle.std.proofs.lemmas.Option.slice_get-get_or ns (length ns - 1) 0 (let k = h.some_step in omega arith)) h.ends
 
 pub least_set : Claims.Least
 least_set s v keeps q f = held s v keeps f.0 f.1.steps q (ends_given s q f.0 f.1)

@@ -3,7 +3,7 @@
 use Rattle.std.proofs.Common.{◌≡◌, ℕ, ◌≤◌, Bool, true, false, not, ◌&&◌, eqb, leb, ◌⊎◌, List, [], ◌∷◌, Some, None, Option, sym, refl, ap, ◌∙◌, subst, inl, inr, ⊎_elim}
 use Rattle.std.specs.List.{AllByRecursion as All}
 use Rattle.std.proofs.ByRecursion.{All-weaker}
-use Rattle.std.proofs.lemmas.Bool.{and_parts, and_from, both_ways, leb-true, le-leb, not_true, not_from_false}
+use Rattle.std.proofs.lemmas.Bool.{and_parts, and_from, both_ways, leb-true, le-leb, not-true, not_from_false}
 use Rattle.horn.specs.Sheets.{Clause, Sheet, Choice, Lawful, LawfulClause, Condition, Distinct, Satisfies, satisfies, all_of, any_of}
 use Rattle.horn.specs.Pebblings.{Broken}
 use Rattle.horn.specs.Levels.{in_force}
@@ -28,7 +28,7 @@ outcome_from s (Some p) h = condition_from s p (h p refl)
 
 distinct_true : (ps : List ℕ) → distinct ps ≡ true → Distinct ps
 distinct_true [] h = tt
-distinct_true (p ∷ ps) h = let k = and_parts (not (any_of (eqb p) ps)) (distinct ps) h in (not_true _ k.0, distinct_true ps k.1)
+distinct_true (p ∷ ps) h = let k = and_parts (not (any_of (eqb p) ps)) (distinct ps) h in (not-true _ k.0, distinct_true ps k.1)
 
 distinct_from : (ps : List ℕ) → Distinct ps → distinct ps ≡ true
 distinct_from [] h = refl

@@ -4,7 +4,7 @@ use Rattle.std.proofs.Common.{◌≡◌, ℕ, zero, suc, ◌+◌, ◌-◌, ◌<�
 use mathlib.Core.Path.{fun_ext}
 use Rattle.std.specs.List.{slice_get, AllByRecursion as All}
 use Rattle.std.proofs.ByRecursion.{All-weaker}
-use Rattle.std.proofs.lemmas.Bool.{and_parts, and_from, or_cases, both_ways, cases_lt, cases_Bool, or_from, eqb-true, eq-eqb, cond_true, cond_false}
+use Rattle.std.proofs.lemmas.Bool.{and_parts, and_from, or_cases, both_ways, cases_lt, cases_Bool, or_from, eqb-true, eq-eqb, cond-true, cond-false}
 use Rattle.horn.specs.Sheets.{all_of, any_of, Clause, Sheet, Lawful, Condition, gives, is, clause_at, outcome_of, body_of}
 use Rattle.horn.specs.Pebblings.{step_gives, given, Allowed, Steps, Pebbling, InForce, longest, lengths, lengths_from, lengths_after}
 use Rattle.horn.specs.Levels.{level, how_many, least, rank}
@@ -115,10 +115,10 @@ lengths_push s t [] n = refl
 lengths_push s t (m ∷ ns) n = lengths_push s (lengths_after s t m) ns n
 
 pub lengths_here : (s : Sheet) (t : ℕ → ℕ) (n p : ℕ) (c : Clause) → clause_at s n ≡ Some c → step_gives s n p ≡ true → lengths_after s t n p ≡ suc (longest t c.body)
-lengths_here s t n p c e g = cond_true (step_gives s n p) (suc (longest t (body_of (clause_at s n)))) (t p) g ∙ ap (λ (o : Option Clause). suc (longest t (body_of o))) e
+lengths_here s t n p c e g = cond-true (step_gives s n p) (suc (longest t (body_of (clause_at s n)))) (t p) g ∙ ap (λ (o : Option Clause). suc (longest t (body_of o))) e
 
 pub lengths_other : (s : Sheet) (t : ℕ → ℕ) (n p : ℕ) → step_gives s n p ≡ false → lengths_after s t n p ≡ t p
-lengths_other s t n p g = cond_false (step_gives s n p) (suc (longest t (body_of (clause_at s n)))) (t p) g
+lengths_other s t n p g = cond-false (step_gives s n p) (suc (longest t (body_of (clause_at s n)))) (t p) g
 
 pub level_at : (s : Sheet) (k q n : ℕ) (c : Clause) → clause_at s n ≡ Some c → c.outcome ≡ Some q → all_of (level s k) c.body ≡ true → level s (suc k) q ≡ true
 level_at s k q zero c e g b = absurd (none_some e)

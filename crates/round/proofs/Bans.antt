@@ -3,7 +3,7 @@ use Rattle.std.proofs.Common.{◌≡◌, ℕ, zero, suc, ◌+◌, ◌-◌, ◌<�
 use Rattle.std.specs.List.{range_with_len, AllByRecursion as All}
 use Rattle.std.proofs.ByRecursion.{All-weaker}
 use Rattle.std.proofs.lemmas.List.{take-append-drop, drop-drop, drop_all, take_more}
-use Rattle.std.proofs.lemmas.Bool.{cases_eq, cases_Bool, and_parts, and_from, or_from, both_ways, cond_true, cond_false}
+use Rattle.std.proofs.lemmas.Bool.{cases_eq, cases_Bool, and_parts, and_from, or_from, both_ways, cond-true, cond-false}
 use Rattle.horn.specs.Sheets.{Sheet, Clause, Condition, Lawful, LawfulClause, all_of, any_of, satisfies, holds_outcome, clause_at}
 use Rattle.horn.specs.Pebblings.{InForce, Broken}
 use Rattle.horn.specs.Levels.{in_force, first}
@@ -46,11 +46,11 @@ first_counted : {X : Type 0} (g : X → Bool) (f : ℕ → X) (a n c : ℕ) → 
 first_counted g f a zero c l h low e = absurd (omega arith)
 first_counted g f a (suc n) c l h low e = split (cases_eq c a)
     (λ z. let y : g (f a) ≡ true = ap (λ (x : ℕ). g (f x)) (sym z) ∙ e in
-    let v : first g (map f (range_with_len a (suc n))) ≡ 1 = cond_true (g (f a)) 1 (suc (first g (map f (range_with_len (a + 1) n)))) y in
+    let v : first g (map f (range_with_len a (suc n))) ≡ 1 = cond-true (g (f a)) 1 (suc (first g (map f (range_with_len (a + 1) n)))) y in
     omega (arith, v))
     (λ z. let y : g (f a) ≡ false = low a (omega arith) (omega arith) in
     let v : first g (map f (range_with_len a (suc n))) ≡ suc (first g (map f (range_with_len (a + 1) n))) =
-    cond_false (g (f a)) 1 (suc (first g (map f (range_with_len (a + 1) n)))) y in
+    cond-false (g (f a)) 1 (suc (first g (map f (range_with_len (a + 1) n)))) y in
     omega (arith, v, first_counted g f (a + 1) n c (omega arith) (omega arith) (λ d p q. low d (omega arith) q) e))
 
 -- an outcome that is none holds nothing

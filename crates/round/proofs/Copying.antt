@@ -4,7 +4,7 @@ use Rattle.std.specs.Option.{option_map}
 use Rattle.std.specs.List.{slice_get}
 use Rattle.std.proofs.lemmas.List.{take_more, take_all}
 use Rattle.std.proofs.ByRecursion.{All-get_or}
-use Rattle.std.proofs.lemmas.Option.{slice_get_get_or}
+use Rattle.std.proofs.lemmas.Option.{slice_get-get_or}
 use Rattle.horn.specs.Sheets.{Sheet, Clause, Condition, Lawful, LawfulClause, clause_at, outcome_number, outcome_size, literals}
 use Rattle.horn.specs.Sources.{at_place, place_of, outcome_at, size_at}
 use Rattle.horn.proofs.Tests.{some_inj, none_some}
@@ -19,7 +19,7 @@ body_more (Some cl) n j p r b b' s h e d f w =
     let size : length cl.body ≡ n = some_inj s in
     let here : j < length cl.body = omega arith in
     let k : j + 1 - 1 ≡ j = omega arith in
-    let q : p ≡ get_or cl.body j 0 = f ∙ ap (λ (x : Option ℕ). unwrap_or x 0) (d ∙ at_place_nth cl.body (j + 1) (omega arith) ∙ ap (slice_get cl.body) k ∙ slice_get_get_or cl.body j 0 here) in
+    let q : p ≡ get_or cl.body j 0 = f ∙ ap (λ (x : Option ℕ). unwrap_or x 0) (d ∙ at_place_nth cl.body (j + 1) (omega arith) ∙ ap (slice_get cl.body) k ∙ slice_get-get_or cl.body j 0 here) in
     ap Some (w ∙ ap₂ (λ (x : List ℕ) (y : ℕ). x ++ y ∷ []) (some_inj e) q ∙ sym (take_more cl.body j 0 here))
 
 pub body_all : (o : Option Clause) (n j : ℕ) (b : List ℕ) → option_map (λ c. length c.body) o ≡ Some n → n ≤ j → Some b ≡ option_map (take j) (option_map (λ c. c.body) o) → Some b ≡ option_map (λ c. c.body) o
@@ -37,7 +37,7 @@ nth_clause s k = get_or s.clauses k nothing
 pub here : (s : Sheet) (k : ℕ) → k < length s.clauses → clause_at s (k + 1) ≡ Some (nth_clause s k)
 here s k h =
     let e : k + 1 - 1 ≡ k = omega arith in
-    clause_at_nth s (k + 1) (omega arith) ∙ ap (slice_get s.clauses) e ∙ slice_get_get_or s.clauses k nothing h
+    clause_at_nth s (k + 1) (omega arith) ∙ ap (slice_get s.clauses) e ∙ slice_get-get_or s.clauses k nothing h
 
 number_back : (s : Sheet) (o : Option ℕ) → ((q : ℕ) → o ≡ Some q → Condition s q) → kept_outcome (outcome_number o) ≡ o
 number_back s None w = refl

@@ -4,7 +4,7 @@ use lib.ListN.{length_map}
 use lib.Seq.{set_at}
 use Rattle.std.specs.List.{AllByRecursion as All}
 use Rattle.std.proofs.lemmas.List.{append_assoc, append-nil, length_push, map_push, take_at}
-use Rattle.std.proofs.lemmas.Bool.{cases_Bool, cases_lt, both_ways, and_left, eq-eqb, ne_eqb, le-leb, cond_true, cond_false}
+use Rattle.std.proofs.lemmas.Bool.{cases_Bool, cases_lt, both_ways, and_left, eq-eqb, ne_eqb, le-leb, cond-true, cond-false}
 use Rattle.std.proofs.lemmas.Bool.Decides.{nat_tests}
 use Rattle.horn.specs.Sheets.{Sheet}
 use Rattle.horn.specs.Levels.{in_force, rank, chosen, needed, listed, ordered, explanation, how_many}
@@ -125,8 +125,8 @@ map_same f g (p ∷ ps) h = ap₂ (λ (x : ℕ) (l : List ℕ). x ∷ l) h.0 (ma
 module _ (s : Sheet) (q : ℕ) (h : in_force s q ≡ true) (marks : List ℕ) (m : Marks s q marks) where
   test_same : (d p : ℕ) → eqb (at marks p) (suc d) ≡ (needed s q p && eqb (rank s p) (suc d))
   test_same d p = split (cases_Bool (needed s q p))
-      (λ e. ap (λ (x : ℕ). eqb x (suc d)) (m p ∙ cond_true (needed s q p) (rank s p) 0 e) ∙ ap (λ (b : Bool). b && eqb (rank s p) (suc d)) (sym e))
-      (λ e. ne_eqb (at marks p) (suc d) (λ z. omega (arith, m p ∙ cond_false (needed s q p) (rank s p) 0 e)) ∙ sym (and_left (needed s q p) (eqb (rank s p) (suc d)) e))
+      (λ e. ap (λ (x : ℕ). eqb x (suc d)) (m p ∙ cond-true (needed s q p) (rank s p) 0 e) ∙ ap (λ (b : Bool). b && eqb (rank s p) (suc d)) (sym e))
+      (λ e. ne_eqb (at marks p) (suc d) (λ z. omega (arith, m p ∙ cond-false (needed s q p) (rank s p) 0 e)) ∙ sym (and_left (needed s q p) (eqb (rank s p) (suc d)) e))
 
   by_mark_is : (d : ℕ) → by_mark marks s.top d ≡ ordered s q d
   by_mark_is zero = refl
@@ -142,9 +142,9 @@ module _ (s : Sheet) (q : ℕ) (h : in_force s q ≡ true) (marks : List ℕ) (m
 
   marks_few : (p : ℕ) → at marks p ≤ rank s q
   marks_few p = split (cases_Bool (needed s q p))
-      (λ e. let v = m p ∙ cond_true (needed s q p) (rank s p) 0 e in
+      (λ e. let v = m p ∙ cond-true (needed s q p) (rank s p) 0 e in
       split (reaches_in_force s s.top q p h e).1 (λ z. omega (arith, v, ap (rank s) z)) (λ z. omega (arith, v)))
-      (λ e. omega (arith, m p ∙ cond_false (needed s q p) (rank s p) 0 e))
+      (λ e. omega (arith, m p ∙ cond-false (needed s q p) (rank s p) 0 e))
 
   -- as many steps as marks
   pub steps_count : how_many (ranked marks) s.top ≡ length (by_mark marks s.top (rank s q))

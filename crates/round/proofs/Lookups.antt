@@ -3,7 +3,7 @@ use Rattle.std.proofs.Common.{◌≡◌, ℕ, zero, suc, ◌+◌, ◌-◌, ◌<�
 use Rattle.std.specs.List.{between, range_with_len, slice_get}
 use Rattle.std.proofs.lemmas.List.{get_or-take, get_or-drop}
 use Rattle.std.proofs.lemmas.List.FromFn.{length-map-range_with_len}
-use Rattle.std.proofs.lemmas.Option.{slice_get_get_or, slice_get_past}
+use Rattle.std.proofs.lemmas.Option.{slice_get-get_or, slice_get_past}
 use Rattle.horn.specs.Sheets.{Sheet, Clause, clause_at, outcome_number}
 use Rattle.horn.specs.Sources.{at_place}
 use Rattle.round.proofs.Meaning.{clause_here}
@@ -39,7 +39,7 @@ nth_between ps a b j l h =
     let s : length (between a b ps) ≡ b - a = size_between ps a b (omega arith) l in
     let q : j < length (between a b ps) = omega arith in
     let t : j < b - a = omega arith in
-    slice_get_get_or (between a b ps) j 0 q ∙ ap Some (get_or-take (b - a) (drop a ps) j 0 t ∙ get_or-drop a ps j 0)
+    slice_get-get_or (between a b ps) j 0 q ∙ ap Some (get_or-take (b - a) (drop a ps) j 0 t ∙ get_or-drop a ps j 0)
 
 pub nth_between_past : (ps : List ℕ) (a b j : ℕ) → a ≤ b → b ≤ length ps → b ≤ a + j → slice_get (between a b ps) j ≡ None
 nth_between_past ps a b j w l h = slice_get_past (between a b ps) j (omega (arith, size_between ps a b w l))

@@ -2,7 +2,7 @@
 use Rattle.std.proofs.Common.{◌≡◌, ℕ, zero, suc, ◌+◌, ◌-◌, ◌<◌, ◌≤◌, min, Bool, true, false, ltb, List, [], ◌∷◌, map, length, take, drop, Some, sym, refl, ap, ◌∙◌, arith}
 use Rattle.std.specs.List.{slice_get, range_with_len}
 use Rattle.std.proofs.lemmas.List.{get_or-take, get_or-drop, length-take, length-drop}
-use Rattle.std.proofs.lemmas.Bool.{cases_lt, cases_Bool, and_parts, and_from, eq-eqb, eqb-true, both_ways, cond_true, cond_false, lt-ltb}
+use Rattle.std.proofs.lemmas.Bool.{cases_lt, cases_Bool, and_parts, and_from, eq-eqb, eqb-true, both_ways, cond-true, cond-false, lt-ltb}
 use Rattle.horn.specs.Sheets.{Sheet, Clause, Lawful, all_of, is}
 use Rattle.horn.specs.Levels.{level, in_force, rank, rank_or_zero}
 use Rattle.horn.proofs.Tests.{none_some, some_inj}
@@ -120,16 +120,16 @@ module _ (n : ℕ) (t : Rows) (lw : LawfulRows n t) (top : ℕ) where
       let below : r ≤ rank s p = split (cases_lt (rank s p) r)
       (λ l. absurd (q.least (rank s p) l (level_to (rank s p) p h (rank_level s p e)))) (λ l. l) in
       let same : r ≡ rank s p = omega arith in
-      same ∙ sym (cond_true (in_force s p) (rank s p) 0 e))
+      same ∙ sym (cond-true (in_force s p) (rank s p) 0 e))
       (λ e.
       let none : r ≡ 0 = split (cases_lt 0 r)
       (λ l. absurd (both_ways _ e (levels_stop s lawful r p (level_from r p h (q.holds l))))) (λ l. omega arith) in
-      none ∙ sym (cond_false (in_force s p) (rank s p) 0 e))
+      none ∙ sym (cond-false (in_force s p) (rank s p) 0 e))
 
 -- a condition with a rank in the table is in force, and no other
 pub in_force_ranked : (s : Sheet) (table : List ℕ) → Ranks s table → (p : ℕ) → 0 < p → ranked table p ≡ in_force s p
 in_force_ranked s table r p h = split (cases_Bool (in_force s p))
-    (λ e. let v : at table p ≡ rank s p = r p h ∙ cond_true (in_force s p) (rank s p) 0 e in
+    (λ e. let v : at table p ≡ rank s p = r p h ∙ cond-true (in_force s p) (rank s p) 0 e in
     lt-ltb 0 (at table p) (omega (arith, v, rank_pos s p)) ∙ sym e)
-    (λ e. let v : at table p ≡ 0 = r p h ∙ cond_false (in_force s p) (rank s p) 0 e in
+    (λ e. let v : at table p ≡ 0 = r p h ∙ cond-false (in_force s p) (rank s p) 0 e in
     ap (ltb 0) v ∙ sym e)

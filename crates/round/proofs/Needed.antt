@@ -3,7 +3,7 @@ use Rattle.std.proofs.Common.{◌≡◌, ℕ, zero, suc, ◌+◌, ◌-◌, ◌<�
 use Rattle.std.specs.List.{AllByRecursion as All}
 use Rattle.std.proofs.ByRecursion.{All-weaker}
 use Rattle.std.proofs.lemmas.List.{take_more}
-use Rattle.std.proofs.lemmas.Bool.{cases_eq, cases_lt, cases_Bool, or_cases, or_left, or_right, both_ways, eqb-true, eq-eqb, ne_eqb, cond_true, cond_false}
+use Rattle.std.proofs.lemmas.Bool.{cases_eq, cases_lt, cases_Bool, or_cases, or_left, or_right, both_ways, eqb-true, eq-eqb, ne_eqb, cond-true, cond-false}
 use Rattle.horn.specs.Sheets.{Sheet, Condition, Lawful, any_of}
 use Rattle.horn.specs.Levels.{in_force, rank, chosen_body, reaches, needed}
 use Rattle.horn.proofs.Tests.{any_at, any_append, all_nth}
@@ -30,7 +30,7 @@ body_more table before marks body i l h old p =
     ap (λ (ps : List ℕ). mem ps p) (take_more body i 0 l) ∙ any_append (λ b. eqb b p) (take i body) (x ∷ []) in
     split (cases_eq p x)
     (λ e. at_same marks x (at table x) p h e ∙ ap (at table) (sym e)
-    ∙ sym (cond_true (mem (take (i + 1) body) p) (at table p) (at before p) (m ∙ or_right (mem (take i body) p) (eqb x p || false) (or_left (eqb x p) false (eq-eqb x p (sym e))))))
+    ∙ sym (cond-true (mem (take (i + 1) body) p) (at table p) (at before p) (m ∙ or_right (mem (take i body) p) (eqb x p || false) (or_left (eqb x p) false (eq-eqb x p (sym e))))))
     (λ n. at_other marks x (at table x) p n ∙ old p
     ∙ ap (λ (b : Bool). cond b (at table p) (at before p)) (sym (m ∙ ap (λ (b : Bool). mem (take i body) p || (b || false)) (ne_eqb x p (λ e. n (sym e))) ∙ or_none (mem (take i body) p))))
 
@@ -109,13 +109,13 @@ module _ (s : Sheet) (w : Lawful s) (q : ℕ) (h : in_force s q ≡ true) where
         value : (b : ℕ) → mem body b ≡ true → at marks' b ≡ rank s b
         value b i =
             let f : in_force s b ≡ true = body_in_force s x b force (lower b i) in
-            is b ∙ cond_true (mem body b) (at table b) (at marks b) i ∙ rank_here s table r b (level_condition s w s.top b f).0 f
+            is b ∙ cond-true (mem body b) (at table b) (at marks b) i ∙ rank_here s table r b (level_condition s w s.top b f).0 f
 
         marked : (b : ℕ) → mem body b ≡ true → 0 < at marks' b
         marked b i = omega (arith, value b i, rank_pos s b)
 
         kept : (b : ℕ) → mem body b ≡ false → at marks' b ≡ at marks b
-        kept b i = is b ∙ cond_false (mem body b) (at table b) (at marks b) i
+        kept b i = is b ∙ cond-false (mem body b) (at table b) (at marks b) i
 
         grown : (b : ℕ) → 0 < at marks b → 0 < at marks' b
         grown b l = split (cases_Bool (mem body b)) (marked b) (λ i. omega (arith, kept b i))
@@ -135,10 +135,10 @@ module _ (s : Sheet) (w : Lawful s) (q : ℕ) (h : in_force s q ≡ true) where
   -- all ranks were looked at
   pub marks_all : (marks : List ℕ) → Marking s q 0 0 marks → Marks s q marks
   marks_all marks m p = split (cases_Bool (needed s q p))
-      (λ e. (m.sound p (reach s.top q m.begun e)).1 ∙ sym (cond_true (needed s q p) (rank s p) 0 e))
+      (λ e. (m.sound p (reach s.top q m.begun e)).1 ∙ sym (cond-true (needed s q p) (rank s p) 0 e))
       (λ e. split (cases_lt 0 (at marks p))
       (λ l. absurd (both_ways _ e (m.sound p l).0))
-      (λ l. let z : at marks p ≡ 0 = omega arith in z ∙ sym (cond_false (needed s q p) (rank s p) 0 e)))
+      (λ l. let z : at marks p ≡ 0 = omega arith in z ∙ sym (cond-false (needed s q p) (rank s p) 0 e)))
     where
       reach : (k x : ℕ) → 0 < at marks x → reaches s k x p ≡ true → 0 < at marks p
       reach zero x l e = subst (λ (y : ℕ). 0 < at marks y) (eqb-true x p e) l

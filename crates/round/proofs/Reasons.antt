@@ -1,6 +1,6 @@
 -- The chosen clauses of a sheet, found in rows by a table of ranks.
 use Rattle.std.proofs.Common.{◌≡◌, ℕ, zero, suc, ◌+◌, ◌-◌, ◌<◌, ◌≤◌, Bool, true, false, ◌&&◌, ltb, List, length, set, Some, sym, ap, ◌∙◌, ap₂, arith}
-use Rattle.std.proofs.lemmas.Bool.{cases_eq, cases_lt, cases_Bool, and_parts, and_from, and_left, both_ways, lt-ltb, le-ltb, cond_true}
+use Rattle.std.proofs.lemmas.Bool.{cases_eq, cases_lt, cases_Bool, and_parts, and_from, and_left, both_ways, lt-ltb, le-ltb, cond-true}
 use Rattle.horn.specs.Sheets.{Sheet, Clause, Condition, Lawful, LawfulClause, all_of, gives, clause_at}
 use Rattle.horn.specs.Levels.{in_force, rank, explains, chosen, chosen_body}
 use Rattle.horn.proofs.Tests.{none_some, all_nth}
@@ -15,7 +15,7 @@ use Rattle.round.proofs.Sets.{at_same, at_other, split}
 
 -- the table's rank of a condition in force
 pub rank_here : (s : Sheet) (table : List ℕ) → Ranks s table → (p : ℕ) → 0 < p → in_force s p ≡ true → at table p ≡ rank s p
-rank_here s table r p h e = r p h ∙ cond_true (in_force s p) (rank s p) 0 e
+rank_here s table r p h e = r p h ∙ cond-true (in_force s p) (rank s p) 0 e
 
 pub ranked_force : (s : Sheet) (table : List ℕ) → Ranks s table → (p : ℕ) → 0 < p → 0 < at table p → in_force s p ≡ true
 ranked_force s table r p h l = sym (in_force_ranked s table r p h) ∙ lt-ltb 0 (at table p) l

@@ -2,7 +2,7 @@
 use Rattle.std.proofs.Common.{◌≡◌, ℕ, ◌+◌, ◌≤◌, Bool, true, false, cond, not, ◌&&◌, eqb, List, [], ◌∷◌, length, get_or, drop, sym, refl, ap, ◌∙◌, subst, ⊎_elim, arith, length-drop, eq-eqb, ne_eqb, eqb-true}
 use Rattle.std.specs.List.{AllByRecursion as All}
 use Rattle.std.proofs.lemmas.List.{drop-drop, get_or_past}
-use Rattle.std.proofs.lemmas.Bool.{cases_Bool, cases_eq, and_parts, and_from, or_parts, or_from, or_left, or_right, not_true, not_from_false, both_ways}
+use Rattle.std.proofs.lemmas.Bool.{cases_Bool, cases_eq, and_parts, and_from, or_parts, or_from, or_left, or_right, not-true, not_from_false, both_ways}
 use Rattle.horn.specs.Sheets.{Distinct, any_of}
 use Rattle.text.specs.Grammar.{digit, Number, NegLits, one, more, Basic, fact, rule, ban, Text, last, join, numeral, neg_lits, basic, text, value, conditions, clause, clauses}
 use Rattle.text.specs.Judging.{Names, Negated, Held, Repeats}
@@ -129,7 +129,7 @@ module _ (s : List ℕ) where
       (λ (w : neg ≡ true).
       let f₃ : (not (any_of (eqb (lead_value bs)) seen) && fresh (lead_value bs ∷ seen) false bs) ≡ true = rw w at f₂ in
       let z = and_parts (not (any_of (eqb (lead_value bs)) seen)) (fresh (lead_value bs ∷ seen) false bs) f₃ in
-      here_or_later p (not_again p seen neg k (sym (ap (λ n. any_of (eqb n) seen) lead) ∙ not_true _ z.0))
+      here_or_later p (not_again p seen neg k (sym (ap (λ n. any_of (eqb n) seen) lead) ∙ not-true _ z.0))
       (clear bs (p + 1) (lead_value bs ∷ seen) false rest (subst (λ n. Knows (p + 1) (n ∷ seen) false) (sym lead) (after_named p seen neg k o)) z.1))
       (λ (w : neg ≡ false).
       here_or_later p (λ r. both_ways neg w (k.signed r.2)) (clear bs (p + 1) seen false rest (after_outcome p seen neg k w o) (rw w at f₂)))

@@ -2,7 +2,7 @@
 use Rattle.std.proofs.Common.{◌≡◌, ℕ, zero, suc, ◌+◌, ◌-◌, ◌<◌, ◌≤◌, true, false, eqb, ltb, List, [], ◌∷◌, ◌++◌, length, get_or, drop, Some, None, Option, sym, refl, ap, ◌∙◌, subst, ⊎_elim, arith, length-drop, ltb-false, ltb-true}
 use Rattle.std.specs.List.{slice_get}
 use Rattle.std.proofs.lemmas.List.{drop-drop, append_assoc, length-append}
-use Rattle.std.proofs.lemmas.Option.{slice_get_get_or, slice_get_past}
+use Rattle.std.proofs.lemmas.Option.{slice_get-get_or, slice_get_past}
 use Rattle.std.proofs.lemmas.Bool.{cases_Bool}
 use Rattle.horn.specs.Sheets.{Clause, clause_at}
 use Rattle.text.proofs.Scan.{starts_open}
@@ -50,7 +50,7 @@ module _ (s xs : List ℕ) (kept : xs ≡ starts_in 0 s) (i : ℕ) (l : 0 < i) w
   kept_none e = opened s i None l (sym (ap (λ ys. slice_get ys (i - 1)) kept) ∙ slice_get_past xs (i - 1) (ltb-false (i - 1) (length xs) (sym e)))
 
   pub kept_some : (p : ℕ) → true ≡ ltb (i - 1) (length xs) → p ≡ get_or xs (i - 1) p → Opened s i (Some p)
-  kept_some p e f = opened s i (Some p) l (sym (ap (λ ys. slice_get ys (i - 1)) kept) ∙ (slice_get_get_or xs (i - 1) p (ltb-true (i - 1) (length xs) (sym e)) ∙ ap Some (sym f)))
+  kept_some p e f = opened s i (Some p) l (sym (ap (λ ys. slice_get ys (i - 1)) kept) ∙ (slice_get-get_or xs (i - 1) p (ltb-true (i - 1) (length xs) (sym e)) ∙ ap Some (sym f)))
 
 -- one sign ( more is kept
 pub kept_more : (s : List ℕ) (p : ℕ) (xs ys : List ℕ) → p < length s → get_or s p 0 ≡ 40 → xs ++ starts_in p (drop p s) ≡ starts_in 0 s → ys ≡ xs ++ p ∷ [] → ys ++ starts_in (p + 1) (drop (p + 1) s) ≡ starts_in 0 s

@@ -2,7 +2,7 @@
 use Rattle.std.proofs.Common.{◌≡◌, ℕ, zero, suc, ◌+◌, ◌-◌, ◌<◌, ◌≤◌, Bool, true, false, cond, not, ◌&&◌, ◌||◌, eqb, leb, ◌⊎◌, List, length, get_or, take, drop, codes, sym, refl, ap, ◌∙◌, inl, inr, ⊎_elim, arith, length-take, eq-eqb, eqb-true, leb-true}
 use Rattle.std.proofs.lemmas.List.{get_or-take}
 use Rattle.std.proofs.lemmas.List.Sums.{sum_by-take-le, count_by-le-length, get_or-le-sum_by}
-use Rattle.std.proofs.lemmas.Bool.{cases_eq, cases_lt, or_cases, and_parts, not_true, both_ways}
+use Rattle.std.proofs.lemmas.Bool.{cases_eq, cases_lt, or_cases, and_parts, not-true, both_ways}
 use Rattle.text.specs.declared.verdict.Fault.TheVariants.{TooGreat, Repeated}
 use Rattle.text.specs.Grammar.{first_digit, end, then, number, one, fact, rule, last, Text}
 use Rattle.text.specs.Judging.{run_value, Names, IsTooGreat, IsTooMany, Limit, many}
@@ -41,11 +41,11 @@ module _ (s : List ℕ) where
     -- a quiet place has no fault of the limits
     named_low : (j n : ℕ) → quiet s j ≡ true → Names s j n → (n ≤ 1000) × ((eqb (get_or s (j - 1) 0) 126 ≡ false) ⊎ (many 80 s j ≡ 0))
     named_low j n q c =
-        ⊎_elim (λ a. absurd (both_ways (eqb (get_or s j 0) 80) (not_true _ a) (eq-eqb (get_or s j 0) 80 c.letter)))
-        (λ a. ⊎_elim (λ b. absurd (both_ways (first_digit (get_or s (j + 1) 0)) (not_true _ b) c.leads))
+        ⊎_elim (λ a. absurd (both_ways (eqb (get_or s j 0) 80) (not-true _ a) (eq-eqb (get_or s j 0) 80 c.letter)))
+        (λ a. ⊎_elim (λ b. absurd (both_ways (first_digit (get_or s (j + 1) 0)) (not-true _ b) c.leads))
         (λ b.
         let d = and_parts (leb (run_value 0 (drop (j + 1) s)) 1000) (not (eqb (get_or s (j - 1) 0) 126) || eqb (many 80 s j) 0) b in
-        (omega (arith, leb-true (run_value 0 (drop (j + 1) s)) 1000 d.0, c.is), ⊎_elim (λ x. inl (not_true _ x)) (λ x. inr (eqb-true (many 80 s j) 0 x)) (or_cases (not (eqb (get_or s (j - 1) 0) 126)) (eqb (many 80 s j) 0) d.1)))
+        (omega (arith, leb-true (run_value 0 (drop (j + 1) s)) 1000 d.0, c.is), ⊎_elim (λ x. inl (not-true _ x)) (λ x. inr (eqb-true (many 80 s j) 0 x)) (or_cases (not (eqb (get_or s (j - 1) 0) 126)) (eqb (many 80 s j) 0) d.1)))
         (or_cases (not (first_digit (get_or s (j + 1) 0))) _ a))
         (or_cases (not (eqb (get_or s j 0) 80)) _ q)
 

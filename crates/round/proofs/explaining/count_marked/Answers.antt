@@ -1,5 +1,5 @@
 use Rattle.std.proofs.Common.{◌≡◌, ℕ, suc, ◌+◌, Bool, cond, sym, ap, ◌∙◌, add-one, arith}
-use Rattle.std.proofs.lemmas.Bool.{lt-ltb, le-ltb, cond_true, cond_false}
+use Rattle.std.proofs.lemmas.Bool.{lt-ltb, le-ltb, cond-true, cond-false}
 use Rattle.horn.proofs.Levels.{how_many_le}
 use Rattle.round.specs.Rows.{at}
 use Rattle.round.specs.Ranks.{ranked}
@@ -18,9 +18,9 @@ loop-k-preserved c =
     let next = sym (ap f (add-one k)) in
     elim c.if-marks-k-gt0.branch [
       | then-marks-k-gt0 w ↦ (
-          let one : ◌≡◌ {A = ℕ} (cond (f (suc k)) 1 0) 1 = cond_true (f (suc k)) 1 0 (next ∙ lt-ltb 0 (at c.args.marks.now (k + 1)) w.if-marks-k-gt0.true) in
+          let one : ◌≡◌ {A = ℕ} (cond (f (suc k)) 1 0) 1 = cond-true (f (suc k)) 1 0 (next ∙ lt-ltb 0 (at c.args.marks.now (k + 1)) w.if-marks-k-gt0.true) in
           omega (arith, w.n_is, more, one, c.loop-k.invariant))
       | else-marks-k-gt0 w ↦ (
-          let none : ◌≡◌ {A = ℕ} (cond (f (suc k)) 1 0) 0 = cond_false (f (suc k)) 1 0 (next ∙ le-ltb 0 (at c.args.marks.now (k + 1)) w.if-marks-k-gt0.false) in
+          let none : ◌≡◌ {A = ℕ} (cond (f (suc k)) 1 0) 0 = cond-false (f (suc k)) 1 0 (next ∙ le-ltb 0 (at c.args.marks.now (k + 1)) w.if-marks-k-gt0.false) in
           omega (arith, w.n_is, more, none, c.loop-k.invariant))
     ]

@@ -7,10 +7,10 @@ use Rattle.horn.proofs.joined.JoinedSource.body_at.Goals as goal
 
 pub returns-then-i-n : goal.returns-then-i-n
 returns-then-i-n g c =
-    c.body-at.ensures
+    c.body_at.ensures
     ∙ ap (λ o. place_of o c.args.j) (in_first (g.A.Source.sheet c.args.self.now.first) (g.B.Source.sheet c.args.self.now.second) c.clauses-n.result c.args.i c.clauses-n.ensures c.ranges.i.fits c.if-i-n.true)
 
 pub returns-else-i-n : goal.returns-else-i-n
 returns-else-i-n g c =
-    c.body-at-else-i-n.ensures
+    c.body_at-else-i-n.ensures
     ∙ ap (λ o. place_of o c.args.j) (in_second (g.A.Source.sheet c.args.self.now.first) (g.B.Source.sheet c.args.self.now.second) c.clauses-n.result c.args.i c.clauses-n.ensures c.ranges.i.fits c.if-i-n.false)

@@ -7,10 +7,10 @@ use Rattle.horn.proofs.joined.JoinedSource.body_len.Goals as goal
 
 pub returns-then-i-n : goal.returns-then-i-n
 returns-then-i-n g c =
-    c.body-len.ensures
+    c.body_len.ensures
     ∙ ap (option_map (λ (c : Clause). length c.body)) (in_first (g.A.Source.sheet c.args.self.now.first) (g.B.Source.sheet c.args.self.now.second) c.clauses-n.result c.args.i c.clauses-n.ensures c.ranges.i.fits c.if-i-n.true)
 
 pub returns-else-i-n : goal.returns-else-i-n
 returns-else-i-n g c =
-    c.body-len-else-i-n.ensures
+    c.body_len-else-i-n.ensures
     ∙ ap (option_map (λ (c : Clause). length c.body)) (in_second (g.A.Source.sheet c.args.self.now.first) (g.B.Source.sheet c.args.self.now.second) c.clauses-n.result c.args.i c.clauses-n.ensures c.ranges.i.fits c.if-i-n.false)
