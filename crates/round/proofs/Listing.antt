@@ -1,6 +1,6 @@
 -- The steps of an explanation, listed from the marks of what a condition needs.
 use Rattle.std.proofs.Common.{◌≡◌, ℕ, zero, suc, ◌+◌, ◌<◌, ◌≤◌, Bool, true, false, cond, ◌&&◌, eqb, ltb, leb, List, [], ◌∷◌, ◌++◌, map, length, take, drop, set, sym, refl, ap, ◌∙◌, ap₂, inl, inr, ⊎_elim, add-one, arith, length-append, length-drop, drop-cons}
-use lib.ListN.{length_map}
+use lib.ListN.{length-map}
 use lib.Seq.{set_at}
 use Rattle.std.specs.List.{AllByRecursion as All}
 use Rattle.std.proofs.lemmas.List.{append_assoc, append-nil, length_push, map_push, take_at}
@@ -68,10 +68,10 @@ pub written_more : (picked done before after : List ℕ) (p n : ℕ) → n ≡ l
     → Written picked (done ++ p ∷ []) before (set after n (at picked p))
 written_more picked done before after p n e h w =
     let f : ℕ → ℕ = at picked in
-    let l : n < length before = omega (arith, ap length w, length-append (map f done) (drop (length done) before), length_map done f, length-drop (length done) before) in
+    let l : n < length before = omega (arith, ap length w, length-append (map f done) (drop (length done) before), length-map done f, length-drop (length done) before) in
     let m : suc n ≡ length (done ++ p ∷ []) = omega (arith, length_push done p) in
     ap (λ (x : List ℕ). set x n (f p)) (w ∙ ap (λ (k : ℕ). map f done ++ drop k before) (sym e) ∙ ap (λ (x : List ℕ). map f done ++ x) (drop-cons before n 0 l))
-    ∙ set_at (map f done) (at before n) (drop (suc n) before) (f p) n (length_map done f ∙ sym e)
+    ∙ set_at (map f done) (at before n) (drop (suc n) before) (f p) n (length-map done f ∙ sym e)
     ∙ sym (append_assoc (map f done) (f p ∷ []) (drop (suc n) before))
     ∙ ap₂ (λ (x : List ℕ) (k : ℕ). x ++ drop k before) (sym (map_push f done p)) m
 
@@ -151,7 +151,7 @@ module _ (s : Sheet) (q : ℕ) (h : in_force s q ≡ true) (marks : List ℕ) (m
   steps_count = marked_size marks s.top (rank s q) marks_few
 
   pub steps_size : how_many (ranked marks) s.top ≡ length (explanation s q)
-  steps_size = steps_count ∙ ap length (by_mark_is (rank s q)) ∙ sym (length_map (ordered s q (rank s q)) (chosen s))
+  steps_size = steps_count ∙ ap length (by_mark_is (rank s q)) ∙ sym (length-map (ordered s q (rank s q)) (chosen s))
 
   -- what is written
   pub steps_written : (picked before after : List ℕ) (r n : ℕ) → Choices s picked → r ≡ rank s q → n ≡ how_many (ranked marks) s.top

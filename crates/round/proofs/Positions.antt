@@ -2,7 +2,7 @@
 use Rattle.std.proofs.Common.{◌≡◌, ℕ, suc, ◌+◌, ◌-◌, ◌<◌, ◌≤◌, Bool, true, cond, not, ◌&&◌, List, [], ◌∷◌, ◌++◌, map, length, take, drop, None, vec_items, vec_len, sym, ap, ◌∙◌, subst, ap₂, subst₂, arith, length-drop}
 use mathlib.Core.Path.{fun_ext}
 use native.Mathlib.Decide.{dec_le}
-use lib.ListN.{length_map}
+use lib.ListN.{length-map}
 use Rattle.std.proofs.lemmas.List.{take-append-le, drop-append-le, take-take, drop-take, take-map, map_push, get_or_append_left, get_or_push, get_or-take, length_push}
 use Rattle.std.proofs.ByRecursion.{All-push, All-take}
 use Rattle.horn.specs.Sheets.{Sheet, Clause, Lawful, all_of}
@@ -33,7 +33,7 @@ clauses_count st = length_clauses (held_rows st.tables) ∙ sym st.tables.outcom
 pub filings_count : (st : State) → length (state_standing st).filings ≡ vec_len st.tables.outcomes - st.opened
 filings_count st =
     let cs : List Clause = (state_sheet st).clauses in
-    length_map (drop st.opened cs) filing_of ∙ length-drop st.opened cs ∙ ap (λ (n : ℕ). n - st.opened) (clauses_count st)
+    length-map (drop st.opened cs) filing_of ∙ length-drop st.opened cs ∙ ap (λ (n : ℕ). n - st.opened) (clauses_count st)
 
 -- The sheet with the standing filings is lawful, and some choice satisfies it.
 pub good_sound : (st : State) → Good st → Sound (opened_sheet st) (state_standing st).filings

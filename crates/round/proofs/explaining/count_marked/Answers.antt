@@ -7,8 +7,8 @@ use Rattle.round.proofs.Rolls.{how_many_add}
 use Rattle.round.proofs.explaining.count_marked.Goals.{then-marks-k-gt0, else-marks-k-gt0}
 use Rattle.round.proofs.explaining.count_marked.Goals as goal
 
-pub overflow-add-n : goal.overflow-add-n
-overflow-add-n c = omega (arith, c.loop-k.invariant, how_many_le (ranked c.args.marks.now) c.loop-k.k)
+pub overflow_add-n : goal.overflow_add-n
+overflow_add-n c = omega (arith, c.loop-k.invariant, how_many_le (ranked c.args.marks.now) c.loop-k.k)
 
 pub loop-k-preserved : goal.loop-k-preserved
 loop-k-preserved c =
@@ -19,8 +19,8 @@ loop-k-preserved c =
     elim c.if-marks-k-gt0.branch [
       | then-marks-k-gt0 w ↦ (
           let one : ◌≡◌ {A = ℕ} (cond (f (suc k)) 1 0) 1 = cond-true (f (suc k)) 1 0 (next ∙ lt-ltb 0 (at c.args.marks.now (k + 1)) w.if-marks-k-gt0.true) in
-          omega (arith, w.n_is, more, one, c.loop-k.invariant))
+          omega (arith, w.n-is, more, one, c.loop-k.invariant))
       | else-marks-k-gt0 w ↦ (
           let none : ◌≡◌ {A = ℕ} (cond (f (suc k)) 1 0) 0 = cond-false (f (suc k)) 1 0 (next ∙ le-ltb 0 (at c.args.marks.now (k + 1)) w.if-marks-k-gt0.false) in
-          omega (arith, w.n_is, more, none, c.loop-k.invariant))
+          omega (arith, w.n-is, more, none, c.loop-k.invariant))
     ]

@@ -15,21 +15,21 @@ returns-then-steps-count c =
     let h : in_force s q ≡ true = ranked_force s c.args.rank.now c.requires.ranked.ranks q low (omega arith) in
     record {
       answer = explains_short s q (length c.args.steps.now) low (omega arith) h
-          (omega (arith, c.count-marked-count.ensures, steps_size s q h c.mark-needed.new.marks c.mark-needed.ensures, c.if-steps-count.true));
+          (omega (arith, c.count_marked-count.ensures, steps_size s q h c.mark_needed.new.marks c.mark_needed.ensures, c.if-steps-count.true));
       buffer = refl;
     }
 
-pub write-steps-requires : goal.write-steps-requires
-write-steps-requires c =
+pub write_steps-requires : goal.write_steps-requires
+write_steps-requires c =
     let s : Sheet = sheet_in c.args.top (rows_of c.args.clauses) in
     let q : ℕ = c.args.q in
     let low : 0 < q = omega arith in
     let h : in_force s q ≡ true = ranked_force s c.args.rank.now c.requires.ranked.ranks q low (omega arith) in
-    let marks : List ℕ = c.mark-needed.new.marks in
+    let marks : List ℕ = c.mark_needed.new.marks in
     let r = ap (λ (x : ℕ). length (by_mark marks c.args.top x)) (rank_here s c.args.rank.now c.requires.ranked.ranks q low h) in
     record {
       sizes = (omega arith, omega arith);
-      room = omega (arith, r, c.count-marked-count.ensures, steps_count s q h marks c.mark-needed.ensures, c.if-steps-count.false);
+      room = omega (arith, r, c.count_marked-count.ensures, steps_count s q h marks c.mark_needed.ensures, c.if-steps-count.false);
     }
 
 pub returns : goal.returns
@@ -38,14 +38,14 @@ returns c =
     let q : ℕ = c.args.q in
     let low : 0 < q = omega arith in
     let h : in_force s q ≡ true = ranked_force s c.args.rank.now c.requires.ranked.ranks q low (omega arith) in
-    let marks : List ℕ = c.mark-needed.new.marks in
-    let n : ℕ = c.count-marked-count.result in
+    let marks : List ℕ = c.mark_needed.new.marks in
+    let n : ℕ = c.count_marked-count.result in
     let r : at c.args.rank.now q ≡ rank s q = rank_here s c.args.rank.now c.requires.ranked.ranks q low h in
-    let size : n ≡ length (explanation s q) = c.count-marked-count.ensures ∙ steps_size s q h marks c.mark-needed.ensures in
-    let written : c.write-steps.new.steps ≡ explanation s q ++ drop n c.args.steps.now =
-    steps_written s q h marks c.mark-needed.ensures c.choose.new.chosen c.args.steps.now c.write-steps.new.steps (at c.args.rank.now q) n
-    (c.choose.ensures c.args.top c.requires.ranked.lawful c.requires.ranked.ranks) r c.count-marked-count.ensures c.write-steps.ensures in
+    let size : n ≡ length (explanation s q) = c.count_marked-count.ensures ∙ steps_size s q h marks c.mark_needed.ensures in
+    let written : c.write_steps.new.steps ≡ explanation s q ++ drop n c.args.steps.now =
+    steps_written s q h marks c.mark_needed.ensures c.choose.new.chosen c.args.steps.now c.write_steps.new.steps (at c.args.rank.now q) n
+    (c.choose.ensures c.args.top c.requires.ranked.lawful c.requires.ranked.ranks) r c.count_marked-count.ensures c.write_steps.ensures in
     record {
-      answer = explains_ok s q (length c.args.steps.now) low (omega arith) h (omega (arith, size, c.if-steps-count.false)) (at c.args.rank.now q) n c.args.steps.now c.write-steps.new.steps r size written;
+      answer = explains_ok s q (length c.args.steps.now) low (omega arith) h (omega (arith, size, c.if-steps-count.false)) (at c.args.rank.now q) n c.args.steps.now c.write_steps.new.steps r size written;
       buffer = written;
     }

@@ -7,8 +7,8 @@ use Rattle.round.proofs.Meaning.{body_below}
 use Rattle.round.proofs.Needed.{body_more}
 use Rattle.round.proofs.explaining.mark_body.Goals as goal
 
-pub slice-bounds-body-end : goal.slice-bounds-body-end
-slice-bounds-body-end c = within (rows_of c.args.clauses) c.requires.lawful.rows (c.args.c + 1) (omega arith)
+pub slice_bounds-body-end : goal.slice_bounds-body-end
+slice_bounds-body-end c = within (rows_of c.args.clauses) c.requires.lawful.rows (c.args.c + 1) (omega arith)
 
 pub bounds-rank-p : goal.bounds-rank-p
 bounds-rank-p c = omega (arith, body_below 1001 (rows_of c.args.clauses) c.requires.lawful c.args.c c.loop-p.p-index c.loop-p-test.true)

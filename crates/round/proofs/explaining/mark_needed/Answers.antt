@@ -19,13 +19,13 @@ loop-d-preserved c =
     marks_down s c.requires.ranked.lawful c.args.q c.requires.force (c.loop-d.d - 1) c.loop-k.marks
     (subst (λ (x : ℕ). Marking s c.args.q (c.loop-d.d - 1 + 1) x c.loop-k.marks) e c.loop-k.invariant)
 
-pub overflow-sub-chosen : goal.overflow-sub-chosen
-overflow-sub-chosen c =
+pub overflow_sub-chosen : goal.overflow_sub-chosen
+overflow_sub-chosen c =
     (marked_row (rows_of c.args.clauses) c.args.top c.requires.ranked.lawful c.args.q c.requires.force c.args.chosen.now c.requires.choices
     (c.loop-d.d - 1 + 1) c.loop-k.k c.loop-k.marks c.loop-k.invariant (omega arith) c.if-marks-k.true).0
 
-pub mark-body-requires : goal.mark-body-requires
-mark-body-requires c = record {
+pub mark_body-requires : goal.mark_body-requires
+mark_body-requires c = record {
   lawful = c.requires.ranked.rows;
   sizes = (c.requires.ranked.size, omega (arith, length-set c.clear.new.table c.args.q (at c.args.rank.now c.args.q)));
   clause = (marked_row (rows_of c.args.clauses) c.args.top c.requires.ranked.lawful c.args.q c.requires.force c.args.chosen.now c.requires.choices
@@ -44,9 +44,9 @@ loop-k-preserved c =
           let row = marked_row t c.args.top c.requires.ranked.lawful c.args.q c.requires.force c.args.chosen.now c.requires.choices
           d k marks c.loop-k.invariant (omega arith) w.if-marks-k.true in
           subst (λ (x : List ℕ). Marking s c.args.q d (k + 1) x) (sym w.marks-is)
-          (marks_more s c.requires.ranked.lawful c.args.q c.requires.force d k marks c.loop-k.invariant c.args.rank.now w.mark-body.new.marks c.requires.ranked.ranks
+          (marks_more s c.requires.ranked.lawful c.args.q c.requires.force d k marks c.loop-k.invariant c.args.rank.now w.mark_body.new.marks c.requires.ranked.ranks
           (omega arith) w.if-marks-k.true
-          (λ p. w.mark-body.ensures p ∙ ap (λ (ps : List ℕ). cond (any_of (λ b. eqb b p) ps) (at c.args.rank.now p) (at marks p)) row.2)))
+          (λ p. w.mark_body.ensures p ∙ ap (λ (ps : List ℕ). cond (any_of (λ b. eqb b p) ps) (at c.args.rank.now p) (at marks p)) row.2)))
       | else-marks-k w ↦ (
           subst (λ (x : List ℕ). Marking s c.args.q d (k + 1) x) (sym w.marks-is)
           (marks_skip s c.requires.ranked.lawful c.args.q c.requires.force d k marks c.loop-k.invariant w.if-marks-k.false))

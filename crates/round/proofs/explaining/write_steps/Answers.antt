@@ -5,14 +5,14 @@ use Rattle.round.proofs.Listing.{so_far, so_far_hit, so_far_miss, hit_room, Writ
 use Rattle.round.proofs.explaining.write_steps.Goals.{then-marks-k, else-marks-k}
 use Rattle.round.proofs.explaining.write_steps.Goals as goal
 
-pub offset-bounds-steps-n : goal.offset-bounds-steps-n
-offset-bounds-steps-n c = omega (arith, c.loop-k.invariant.0, hit_room c.args.marks.now c.args.top c.loop-d.d c.loop-k.k c.args.last c.loop-k-test.true c.loop-d-test.true c.if-marks-k.true)
+pub offset_bounds-steps-n : goal.offset_bounds-steps-n
+offset_bounds-steps-n c = omega (arith, c.loop-k.invariant.0, hit_room c.args.marks.now c.args.top c.loop-d.d c.loop-k.k c.args.last c.loop-k-test.true c.loop-d-test.true c.if-marks-k.true)
 
 pub bounds-steps-n : goal.bounds-steps-n
 bounds-steps-n c = omega (arith, c.loop-k.invariant.0, hit_room c.args.marks.now c.args.top c.loop-d.d c.loop-k.k c.args.last c.loop-k-test.true c.loop-d-test.true c.if-marks-k.true)
 
-pub overflow-add-n : goal.overflow-add-n
-overflow-add-n c = omega (arith, c.loop-k.invariant.0, hit_room c.args.marks.now c.args.top c.loop-d.d c.loop-k.k c.args.last c.loop-k-test.true c.loop-d-test.true c.if-marks-k.true)
+pub overflow_add-n : goal.overflow_add-n
+overflow_add-n c = omega (arith, c.loop-k.invariant.0, hit_room c.args.marks.now c.args.top c.loop-d.d c.loop-k.k c.args.last c.loop-k-test.true c.loop-d-test.true c.if-marks-k.true)
 
 pub loop-k-preserved : goal.loop-k-preserved
 loop-k-preserved c =
@@ -26,13 +26,13 @@ loop-k-preserved c =
       | then-marks-k w ↦ (
           let e : next ≡ done ++ (k + 1) ∷ [] = so_far_hit marks c.args.top d k w.if-marks-k.true in
           let room = hit_room marks c.args.top d k c.args.last c.loop-k-test.true c.loop-d-test.true w.if-marks-k.true in (
-            omega (arith, w.n_is, c.loop-k.invariant.0, ap length e, length_push done (k + 1)),
+            omega (arith, w.n-is, c.loop-k.invariant.0, ap length e, length_push done (k + 1)),
             λ before h. subst₂ (λ (l x : List ℕ). Written picked l before x) (sym e) (sym w.steps-is)
                 (written_more picked done before c.loop-k.steps (k + 1) c.loop-k.n c.loop-k.invariant.0 (omega (arith, c.loop-k.invariant.0, room)) (c.loop-k.invariant.1 before h)),
           ))
       | else-marks-k w ↦ (
           let e : next ≡ done = so_far_miss marks c.args.top d k w.if-marks-k.false in (
-            omega (arith, w.n_is, c.loop-k.invariant.0, ap length e),
+            omega (arith, w.n-is, c.loop-k.invariant.0, ap length e),
             λ before h. subst₂ (λ (l x : List ℕ). Written picked l before x) (sym e) (sym w.steps-is) (c.loop-k.invariant.1 before h),
           ))
     ]

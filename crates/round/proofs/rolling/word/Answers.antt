@@ -15,11 +15,11 @@ fits c =
     let few : 32 - b ≤ 32 = omega arith in
     omega (arith, turn c, word_fits (up_to c.args.top (ranked c.args.rank.now)) (c.args.first + b) (32 - b) few)
 
-pub overflow-mul-w : goal.overflow-mul-w
-overflow-mul-w c = omega (arith, fits c)
+pub overflow_mul-w : goal.overflow_mul-w
+overflow_mul-w c = omega (arith, fits c)
 
-pub overflow-add-w : goal.overflow-add-w
-overflow-add-w c = omega (arith, fits c)
+pub overflow_add-w : goal.overflow_add-w
+overflow_add-w c = omega (arith, fits c)
 
 pub loop-b-preserved : goal.loop-b-preserved
 loop-b-preserved c = turn c

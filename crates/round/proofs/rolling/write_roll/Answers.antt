@@ -6,8 +6,8 @@ use Rattle.horn.proofs.Levels.{how_many_le}
 use Rattle.round.proofs.Rolls.{words_more, count_more, ones_few, how_many_up_to}
 use Rattle.round.proofs.rolling.write_roll.Goals as goal
 
-pub overflow-add-n : goal.overflow-add-n
-overflow-add-n c =
+pub overflow_add-n : goal.overflow_add-n
+overflow_add-n c =
     let f : ℕ → Bool = up_to c.args.top (ranked c.args.rank.now) in
     omega (arith, c.loop-w.invariant.0, how_many_le f (32 * c.loop-w.w), ones_few f (32 * c.loop-w.w + 1) c.word-x.result c.word-x.ensures)
 
@@ -19,8 +19,8 @@ loop-w-preserved c =
       words_more f c.args.words.now c.loop-w.words c.loop-w.w c.word-x.result lt c.loop-w.invariant.1 c.word-x.ensures,
     )
 
-pub overflow-cast-result : goal.overflow-cast-result
-overflow-cast-result c =
+pub overflow_cast-result : goal.overflow_cast-result
+overflow_cast-result c =
     let f : ℕ → Bool = up_to c.args.top (ranked c.args.rank.now) in
     omega (arith, c.loop-w.invariant.0, how_many_le f (32 * c.loop-w.w))
 

@@ -9,12 +9,12 @@ limits-requires c = let w = (longest c.args.text.now).within in record { within 
 pub returns-then-inside : goal.returns-then-inside
 returns-then-inside c =
     let l = c.in-Ok.ensures in
-    (c.if-text-gt-MAX-TEXT.false, good_at c.args.text.now c.form-end.result.0 c.form-end.ensures.far (sym c.form-end.ensures.inside ∙ c.if-inside.true) c.in-Ok.counts l.0 l.1)
+    (c.if-text-gt-MAX_TEXT.false, good_at c.args.text.now c.form-end.result.0 c.form-end.ensures.far (sym c.form-end.ensures.inside ∙ c.if-inside.true) c.in-Ok.counts l.0 l.1)
 
 pub returns-in-Err : goal.returns-in-Err
-returns-in-Err c = refused_at c.args.text.now c.form-end.result.0 c.form-end.ensures.far c.if-text-gt-MAX-TEXT.false c.in-Err.f c.in-Err.ensures
+returns-in-Err c = refused_at c.args.text.now c.form-end.result.0 c.form-end.ensures.far c.if-text-gt-MAX_TEXT.false c.in-Err.f c.in-Err.ensures
 
 pub returns-else-inside : goal.returns-else-inside
 returns-else-inside c =
     let l = c.in-Ok.ensures in
-    (c.if-text-gt-MAX-TEXT.false, outside_at c.args.text.now c.form-end.result.0 c.form-end.ensures.far (sym c.form-end.ensures.inside ∙ c.if-inside.false) l.0)
+    (c.if-text-gt-MAX_TEXT.false, outside_at c.args.text.now c.form-end.result.0 c.form-end.ensures.far (sym c.form-end.ensures.inside ∙ c.if-inside.false) l.0)

@@ -27,8 +27,8 @@ discharge-back-requires c =
       counted = v.3;
     }
 
-pub overflow-add-head : goal.overflow-add-head
-overflow-add-head c = omega (arith, c.loop-head.invariant.queued.room, c.loop-head-test.true)
+pub overflow_add-head : goal.overflow_add-head
+overflow_add-head c = omega (arith, c.loop-head.invariant.queued.room, c.loop-head-test.true)
 
 pub returns : goal.returns
 returns c = λ top lawful p h.

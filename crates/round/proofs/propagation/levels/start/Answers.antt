@@ -6,8 +6,8 @@ use Rattle.round.proofs.Counts.{counted_entered, room_or_same}
 use Rattle.round.proofs.Turns.{counted_more}
 use Rattle.round.proofs.propagation.levels.start.Goals as goal
 
-pub overflow-sub-size : goal.overflow-sub-size
-overflow-sub-size c = c.requires.lawful.rows.rising c.args.c c.requires.clause
+pub overflow_sub-size : goal.overflow_sub-size
+overflow_sub-size c = c.requires.lawful.rows.rising c.args.c c.requires.clause
 
 pub returns-then-size-eq0 : goal.returns-then-size-eq0
 returns-then-size-eq0 c =

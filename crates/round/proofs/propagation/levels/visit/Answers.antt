@@ -3,8 +3,8 @@ use Rattle.round.specs.Rows.{at}
 use Rattle.round.proofs.Counts.{count_pos, counted_discharged, last_queued, last_same, last_counted}
 use Rattle.round.proofs.propagation.levels.visit.Goals as goal
 
-pub overflow-sub-left : goal.overflow-sub-left
-overflow-sub-left c = count_pos c.args.place c.requires.lawful.rows c.requires.owned c.requires.queued c.requires.here c.requires.place c.requires.counted
+pub overflow_sub-left : goal.overflow_sub-left
+overflow_sub-left c = count_pos c.args.place c.requires.lawful.rows c.requires.owned c.requires.queued c.requires.here c.requires.place c.requires.counted
 
 pub returns-then-left-eq0 : goal.returns-then-left-eq0
 returns-then-left-eq0 c =

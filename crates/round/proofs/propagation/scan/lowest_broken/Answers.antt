@@ -9,19 +9,19 @@ use Rattle.round.proofs.Bans.{scanned_some, scanned_none}
 use Rattle.horn.specs.Sheets.{all_of}
 use Rattle.round.proofs.propagation.scan.lowest_broken.Goals as goal
 
-pub slice-bounds-body-end : goal.slice-bounds-body-end
-slice-bounds-body-end c = within (rows_of c.args.clauses) c.requires.lawful.rows (c.loop-c.c + 1) (omega arith)
+pub slice_bounds-body-end : goal.slice_bounds-body-end
+slice_bounds-body-end c = within (rows_of c.args.clauses) c.requires.lawful.rows (c.loop-c.c + 1) (omega arith)
 
-pub all-ranked-requires : goal.all-ranked-requires
-all-ranked-requires c = λ j h. omega (arith, body_below 1001 (rows_of c.args.clauses) c.requires.lawful c.loop-c.c j h)
+pub all_ranked-requires : goal.all_ranked-requires
+all_ranked-requires c = λ j h. omega (arith, body_below 1001 (rows_of c.args.clauses) c.requires.lawful c.loop-c.c j h)
 
-pub returns-then-all-ranked : goal.returns-then-all-ranked
-returns-then-all-ranked c = λ top lawful r.
+pub returns-then-all_ranked : goal.returns-then-all_ranked
+returns-then-all_ranked c = λ top lawful r.
     let t : Rows = rows_of c.args.clauses in
     scanned_some t top c.args.rank.now lawful r c.loop-c.c c.loop-c-test.true c.loop-c.invariant
     (and_from (no_outcome (clause_in t c.loop-c.c).outcome) (all_of (ranked c.args.rank.now) (clause_in t c.loop-c.c).body)
     (ap (λ (o : ℕ). no_outcome (kept_outcome o)) c.if-clauses-c-eq0.true)
-    (sym c.if-all-ranked.ensures))
+    (sym c.if-all_ranked.ensures))
 
 pub returns : goal.returns
 returns c = λ top lawful r.

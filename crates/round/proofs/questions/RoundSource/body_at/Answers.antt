@@ -7,8 +7,8 @@ use Rattle.round.specs.Sound.{round_is}
 use Rattle.round.proofs.Growing.{filled_writing}
 use Rattle.round.proofs.questions.RoundSource.body_at.Goals as goal
 
-pub body-at-requires : goal.body-at-requires
-body-at-requires c = let st = c.args.self.now.state in filled_writing (held_rows st.tables) (good st c.args.self.now.ok).stocked.filled
+pub body_at-requires : goal.body_at-requires
+body_at-requires c = let st = c.args.self.now.state in filled_writing (held_rows st.tables) (good st c.args.self.now.ok).stocked.filled
 
 pub returns : goal.returns
-returns c = c.body-at.ensures ∙ ap (λ (s : Sheet). condition_at s c.args.i c.args.j) (sym (round_is c.args.self.now))
+returns c = c.body_at.ensures ∙ ap (λ (s : Sheet). condition_at s c.args.i c.args.j) (sym (round_is c.args.self.now))

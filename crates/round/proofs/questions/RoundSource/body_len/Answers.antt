@@ -7,8 +7,8 @@ use Rattle.round.specs.Sound.{round_is}
 use Rattle.round.proofs.Growing.{filled_writing}
 use Rattle.round.proofs.questions.RoundSource.body_len.Goals as goal
 
-pub body-len-requires : goal.body-len-requires
-body-len-requires c = let st = c.args.self.now.state in filled_writing (held_rows st.tables) (good st c.args.self.now.ok).stocked.filled
+pub body_len-requires : goal.body_len-requires
+body_len-requires c = let st = c.args.self.now.state in filled_writing (held_rows st.tables) (good st c.args.self.now.ok).stocked.filled
 
 pub returns : goal.returns
-returns c = c.body-len.ensures ∙ ap (λ (s : Sheet). size_at s c.args.i) (sym (round_is c.args.self.now))
+returns c = c.body_len.ensures ∙ ap (λ (s : Sheet). size_at s c.args.i) (sym (round_is c.args.self.now))

@@ -13,8 +13,8 @@ use Rattle.round.proofs.sound.Round.explain.Goals as goal
 pub explain-requires : goal.explain-requires
 explain-requires c = good c.args.self.now.state c.args.self.now.ok
 
-pub invariant-of-self : goal.invariant-of-self
-invariant-of-self c = (∣ c.explain.ensures.good ∣₁, tt)
+pub invariant_of-self : goal.invariant_of-self
+invariant_of-self c = record { ok = ∣ c.explain.ensures.good ∣₁ }
 
 pub returns : goal.returns
 returns c =

@@ -13,10 +13,10 @@ returns-in-Ok c =
     let p = position c.args.self.now in
     let w : ℕ = words_for c.args.self.now.state.tables.conditions in
     let buffer : List ℕ = c.roll.new.words in
-    let size : length c.deref-mut.result.now ≡ c.args.n = c.deref-mut.ensures.len ∙ c.in-ok-words.ensures.len in
-    let whole = with_items_is c.in-ok-words.words buffer (c.roll.auto.words ∙ c.deref-mut.ensures.len) in
+    let size : length c.deref_mut.result.now ≡ c.args.n = c.deref_mut.ensures.len ∙ c.in_ok-words.ensures.len in
+    let whole = with_items_is c.in_ok-words.words buffer (c.roll.auto.words ∙ c.deref_mut.ensures.len) in
     let written : take w buffer ≡ vec_items c.truncate.new.self = sym (c.truncate.ensures.items ∙ ap (take c.words_for.result) whole ∙ ap (λ (k : ℕ). take k buffer) c.words_for.ensures) in
-    let step = subst (λ (ws : List ℕ). Step p (roll (length c.deref-mut.result.now)) (ok (c.in-Ok.size ∷ []) ws) p) written c.in-Ok.ensures.step in
+    let step = subst (λ (ws : List ℕ). Step p (roll (length c.deref_mut.result.now)) (ok (c.in-Ok.size ∷ []) ws) p) written c.in-Ok.ensures.step in
     record {
       step = subst (λ (k : ℕ). Step p (roll k) (ok (c.in-Ok.size ∷ []) (vec_items c.truncate.new.self)) p) size step;
       suits = to_roll c.args.n c.in-Ok.size c.truncate.new.self;
@@ -25,7 +25,7 @@ returns-in-Ok c =
 pub returns-in-Err : goal.returns-in-Err
 returns-in-Err c =
     let p = position c.args.self.now in
-    let size : length c.deref-mut.result.now ≡ c.args.n = c.deref-mut.ensures.len ∙ c.in-ok-words.ensures.len in
+    let size : length c.deref_mut.result.now ≡ c.args.n = c.deref_mut.ensures.len ∙ c.in_ok-words.ensures.len in
     record {
       step = subst (λ (k : ℕ). Step p (roll k) (refusal c.in-Err.refusal) p) size c.in-Err.ensures.step;
       suits = to_any (Roll c.args.n) c.in-Err.refusal;

@@ -1,4 +1,4 @@
 use Rattle.round.proofs.sound.Round.new.Goals as goal
 
-pub invariant-of-result : goal.invariant-of-result
-invariant-of-result c = (∣ c.in-ok-state.ensures.0 ∣₁, tt)
+pub invariant_of-result : goal.invariant_of-result
+invariant_of-result c = record { ok = ∣ c.in_ok-state.ensures.0 ∣₁ }

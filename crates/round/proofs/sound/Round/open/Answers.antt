@@ -6,8 +6,8 @@ use Rattle.round.proofs.sound.Round.open.Goals as goal
 pub open-requires : goal.open-requires
 open-requires g c = (good c.args.self.now.state c.args.self.now.ok).stocked.usable
 
-pub invariant-of-self : goal.invariant-of-self
-invariant-of-self g c = (∣ c.open.ensures.good ∣₁, tt)
+pub invariant_of-self : goal.invariant_of-self
+invariant_of-self g c = record { ok = ∣ c.open.ensures.good ∣₁ }
 
 pub returns : goal.returns
 returns g c = record {

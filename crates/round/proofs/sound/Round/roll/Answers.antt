@@ -8,8 +8,8 @@ use Rattle.round.specs.Sound.{round_is}
 use Rattle.round.proofs.Replying.{count_in_force, roll_in_force, rolls_ok}
 use Rattle.round.proofs.sound.Round.roll.Goals as goal
 
-pub write-roll-requires : goal.write-roll-requires
-write-roll-requires c =
+pub write_roll-requires : goal.write_roll-requires
+write_roll-requires c =
     let st = c.args.self.now.state in
     let g = good st c.args.self.now.ok in
     record { table = c.deref.ensures.len ∙ g.stocked.usable.ranks; low = g.stocked.few_conditions; space = omega arith }
@@ -21,14 +21,14 @@ returns c =
     let s : Sheet = state_sheet st in
     let r : Ranks s c.deref.result.now = subst (Ranks s) (sym c.deref.ensures.value) g.ranked in
     let rest : List ℕ = drop (words_for s.top) c.args.words.now in
-    let n = c.write-roll.ensures.count ∙ count_in_force s c.deref.result.now r in
-    let b : c.write-roll.new.words ≡ roll_words (in_force s) s.top ++ rest = c.write-roll.ensures.written ∙ ap (λ (ws : List ℕ). ws ++ rest) (roll_in_force s c.deref.result.now r) in
+    let n = c.write_roll.ensures.count ∙ count_in_force s c.deref.result.now r in
+    let b : c.write_roll.new.words ≡ roll_words (in_force s) s.top ++ rest = c.write_roll.ensures.written ∙ ap (λ (ws : List ℕ). ws ++ rest) (roll_in_force s c.deref.result.now r) in
     let space : words_for s.top ≤ length c.args.words.now = omega arith in
-    let a = rolls_ok s c.write-roll.result (length c.args.words.now) c.write-roll.new.words rest space n b in
+    let a = rolls_ok s c.write_roll.result (length c.args.words.now) c.write_roll.new.words rest space n b in
     let back = sym (round_is c.args.self.now) in
     record {
       step = record {
-        answers = subst (λ (x : Sheet). Rolls x (length c.args.words.now) (ok (c.write-roll.result ∷ []) (take (words_for s.top) c.write-roll.new.words))) back a;
+        answers = subst (λ (x : Sheet). Rolls x (length c.args.words.now) (ok (c.write_roll.result ∷ []) (take (words_for s.top) c.write_roll.new.words))) back a;
         sheet = refl;
         stands = refl;
       };

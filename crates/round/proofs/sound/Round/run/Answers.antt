@@ -4,24 +4,24 @@ use Rattle.round.specs.Sound.{position}
 use Rattle.round.proofs.Events.{replied_none, replied_more, replied_all, ran_part}
 use Rattle.round.proofs.sound.Round.run.Goals as goal
 
-pub returns-in-err-events : goal.returns-in-err-events
-returns-in-err-events c =
-    let x = err_from_is_err_and c.from-residual.result c.from-residual.ensures.1 in
+pub returns-in_err-events : goal.returns-in_err-events
+returns-in_err-events c =
+    let x = err_from_is_err_and c.from_residual.result c.from_residual.ensures.1 in
     let p = position c.args.self.now in
     rw x.1 (ran_part p p p c.args.calls.now 0 [] x.0 (replied_none p) refl)
 
-pub returns-in-err-reply : goal.returns-in-err-reply
-returns-in-err-reply c =
-    let x = err_from_is_err_and c.from-residual-in-err-reply.result c.from-residual-in-err-reply.ensures.1 in
+pub returns-in_err-reply : goal.returns-in_err-reply
+returns-in_err-reply c =
+    let x = err_from_is_err_and c.from_residual-in_err-reply.result c.from_residual-in_err-reply.ensures.1 in
     let l = c.loop-call in
-    rw x.1 (ran_part (position c.args.self.now) (position l.self) (position c.make.new.self) c.args.calls.now l.call-index (vec_items l.events) x.0 l.invariant.0 c.in-err-reply.ensures)
+    rw x.1 (ran_part (position c.args.self.now) (position l.self) (position c.make.new.self) c.args.calls.now l.call-index (vec_items l.events) x.0 l.invariant.0 c.in_err-reply.ensures)
 
 pub loop-call-preserved : goal.loop-call-preserved
 loop-call-preserved c =
     let l = c.loop-call in
-    let done = replied_more (position c.args.self.now) (position l.self) (position c.make.new.self) c.args.calls.now (vec_items l.events) (vec_items c.push-reserved.new.self) l.call-index _ c.in-ok-reply.reply c.loop-call-test.true l.invariant.0 c.in-ok-reply.ensures c.push-reserved.ensures.items in
-    let room : length c.args.calls.now ≤ vec_capacity c.push-reserved.new.self = omega (arith, c.push-reserved.ensures.capacity, l.invariant.2) in
-    (done, c.push-reserved.ensures.len ∙ ap (λ n. n + 1) l.invariant.1, room)
+    let done = replied_more (position c.args.self.now) (position l.self) (position c.make.new.self) c.args.calls.now (vec_items l.events) (vec_items c.push_reserved.new.self) l.call-index _ c.in_ok-reply.reply c.loop-call-test.true l.invariant.0 c.in_ok-reply.ensures c.push_reserved.ensures.items in
+    let room : length c.args.calls.now ≤ vec_capacity c.push_reserved.new.self = omega (arith, c.push_reserved.ensures.capacity, l.invariant.2) in
+    (done, c.push_reserved.ensures.len ∙ ap (λ n. n + 1) l.invariant.1, room)
 
 pub returns : goal.returns
 returns c =

@@ -6,36 +6,36 @@ use Rattle.round.proofs.Positions.{room_places}
 use Rattle.round.proofs.Additions.{ban_full, ban_refused, ban_good, ban_step}
 use Rattle.round.proofs.state.State.ban.Goals as goal
 
-pub returns-then-clauses-self-ge-MAX-FILINGS : goal.returns-then-clauses-self-ge-MAX-FILINGS
-returns-then-clauses-self-ge-MAX-FILINGS c = record {
+pub returns-then-clauses-self-ge-MAX_FILINGS : goal.returns-then-clauses-self-ge-MAX_FILINGS
+returns-then-clauses-self-ge-MAX_FILINGS c = record {
   good = c.requires;
-  step = ban_full c.args.self.now c.args.p (omega (arith, c.if-p-eq0.false)) c.if-p-self.false (omega (arith, c.clauses-clauses.ensures, c.if-clauses-self-ge-MAX-FILINGS.true));
+  step = ban_full c.args.self.now c.args.p (omega (arith, c.if-p-eq0.false)) c.if-p-self.false (omega (arith, c.clauses-clauses.ensures, c.if-clauses-self-ge-MAX_FILINGS.true));
 }
 
 pub returns-then-index-gt0 : goal.returns-then-index-gt0
 returns-then-index-gt0 c = record {
   good = c.requires;
-  step = ban_refused c.args.self.now c.args.p (omega (arith, c.if-p-eq0.false)) c.if-p-self.false c.requires (omega (arith, c.clauses-clauses.ensures, c.if-clauses-self-ge-MAX-FILINGS.false))
+  step = ban_refused c.args.self.now c.args.p (omega (arith, c.if-p-eq0.false)) c.if-p-self.false c.requires (omega (arith, c.clauses-clauses.ensures, c.if-clauses-self-ge-MAX_FILINGS.false))
       c.index.result.now c.index.ensures c.if-index-gt0.true (c.clauses-clauses.result + 1) (ap (λ (n : ℕ). n + 1) c.clauses-clauses.ensures);
 }
 
-pub add-place-requires : goal.add-place-requires
-add-place-requires c =
+pub add_place-requires : goal.add_place-requires
+add_place-requires c =
     let room = room_places c.args.self.now c.requires.stocked.filled c.requires.kept in
     record {
       writing = filled_writing (held_rows c.args.self.now.tables) c.requires.stocked.filled;
       roomy = c.requires.stocked.usable.roomy;
-      room = omega (arith, room, c.clauses-clauses.ensures, c.if-clauses-self-ge-MAX-FILINGS.false);
+      room = omega (arith, room, c.clauses-clauses.ensures, c.if-clauses-self-ge-MAX_FILINGS.false);
     }
 
-pub end-clause-requires : goal.end-clause-requires
-end-clause-requires c =
+pub end_clause-requires : goal.end_clause-requires
+end_clause-requires c =
     let room = room_places c.args.self.now c.requires.stocked.filled c.requires.kept in
     record {
-      writing = c.add-place.ensures.writing;
-      roomy = c.add-place.ensures.roomy;
-      room = omega (arith, c.add-place.ensures.clauses_count, c.requires.kept.few_opened, c.clauses-clauses.ensures, c.if-clauses-self-ge-MAX-FILINGS.false);
-      few = omega (arith, c.add-place.ensures.places_count, room, c.clauses-clauses.ensures, c.if-clauses-self-ge-MAX-FILINGS.false);
+      writing = c.add_place.ensures.writing;
+      roomy = c.add_place.ensures.roomy;
+      room = omega (arith, c.add_place.ensures.clauses_count, c.requires.kept.few_opened, c.clauses-clauses.ensures, c.if-clauses-self-ge-MAX_FILINGS.false);
+      few = omega (arith, c.add_place.ensures.places_count, room, c.clauses-clauses.ensures, c.if-clauses-self-ge-MAX_FILINGS.false);
     }
 
 pub returns : goal.returns
@@ -43,12 +43,12 @@ returns c =
     let st = c.args.self.now in
     let u = c.requires.stocked.usable in
     let p : ℕ = c.args.p in
-    let st' : State = record { tables = c.end-clause.new.self; opened = st.opened; marks = st.marks; rank = st.rank; spare = st.spare; chosen = st.chosen; scratch = st.scratch } in
+    let st' : State = record { tables = c.end_clause.new.self; opened = st.opened; marks = st.marks; rank = st.rank; spare = st.spare; chosen = st.chosen; scratch = st.scratch } in
     let low : 1 ≤ p = omega (arith, c.if-p-eq0.false) in
-    let room : vec_len st.tables.outcomes - st.opened < 256 = omega (arith, c.clauses-clauses.ensures, c.if-clauses-self-ge-MAX-FILINGS.false) in
+    let room : vec_len st.tables.outcomes - st.opened < 256 = omega (arith, c.clauses-clauses.ensures, c.if-clauses-self-ge-MAX_FILINGS.false) in
     record {
-      good = ban_good st st' c.add-place.new.self p c.requires refl refl c.add-place.ensures c.end-clause.ensures room low c.if-p-self.false c.index.result.now c.index.ensures c.if-index-gt0.false
-          (record { roomy = c.end-clause.ensures.roomy; ranks = u.ranks; spares = u.spares; choices = u.choices; ready = u.ready; mark_room = u.mark_room }) refl;
-      step = ban_step st st' c.add-place.new.self p c.requires refl refl c.add-place.ensures c.end-clause.ensures room low c.if-p-self.false c.index.result.now c.index.ensures c.if-index-gt0.false
+      good = ban_good st st' c.add_place.new.self p c.requires refl refl c.add_place.ensures c.end_clause.ensures room low c.if-p-self.false c.index.result.now c.index.ensures c.if-index-gt0.false
+          (record { roomy = c.end_clause.ensures.roomy; ranks = u.ranks; spares = u.spares; choices = u.choices; ready = u.ready; mark_room = u.mark_room }) refl;
+      step = ban_step st st' c.add_place.new.self p c.requires refl refl c.add_place.ensures c.end_clause.ensures room low c.if-p-self.false c.index.result.now c.index.ensures c.if-index-gt0.false
           (c.clauses-clauses.result + 1) (ap (λ (n : ℕ). n + 1) c.clauses-clauses.ensures);
     }

@@ -7,8 +7,8 @@ use Rattle.round.specs.Needed.{RankedRows}
 use Rattle.round.proofs.Openings.{stocked_rows, stocked_lawful}
 use Rattle.round.proofs.state.State.explain.Goals as goal
 
-pub explain-rows-requires : goal.explain-rows-requires
-explain-rows-requires c =
+pub explain_rows-requires : goal.explain_rows-requires
+explain_rows-requires c =
     let st = c.args.self.now in
     let s = c.requires.stocked in
     record {
@@ -20,7 +20,7 @@ explain-rows-requires c =
         few_conditions = s.few_conditions;
         few_clauses = omega (arith, st.tables.outcomes.ok.0, s.few_clauses);
       });
-      sizes = (c.deref-mut.ensures.len ∙ s.usable.choices, c.deref-mut-2.ensures.len ∙ s.usable.spares);
+      sizes = (c.deref_mut.ensures.len ∙ s.usable.choices, c.deref_mut-2.ensures.len ∙ s.usable.spares);
     }
 
 pub returns : goal.returns
@@ -54,8 +54,8 @@ returns c =
         unbroken = c.requires.unbroken;
       };
       position = refl;
-      answer = subst (λ (t : Rows). Explains (sheet_in top t) c.args.p (length steps) (explain_answer c.explain-rows.result c.explain-rows.new.steps))
-          c.rows.ensures c.explain-rows.ensures.answer;
-      buffer = subst (λ (t : Rows). c.explain-rows.new.steps ≡ steps_left c.explain-rows.result (explanation (sheet_in top t) c.args.p) steps)
-          c.rows.ensures c.explain-rows.ensures.buffer;
+      answer = subst (λ (t : Rows). Explains (sheet_in top t) c.args.p (length steps) (explain_answer c.explain_rows.result c.explain_rows.new.steps))
+          c.rows.ensures c.explain_rows.ensures.answer;
+      buffer = subst (λ (t : Rows). c.explain_rows.new.steps ≡ steps_left c.explain_rows.result (explanation (sheet_in top t) c.args.p) steps)
+          c.rows.ensures c.explain_rows.ensures.buffer;
     }

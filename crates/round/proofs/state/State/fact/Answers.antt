@@ -5,17 +5,17 @@ use Rattle.round.proofs.Growing.{filled_writing}
 use Rattle.round.proofs.Additions.{fact_full, fact_stocked, fact_good, fact_step, fact_good_again, fact_refused}
 use Rattle.round.proofs.state.State.fact.Goals as goal
 
-pub returns-then-clauses-self-ge-MAX-FILINGS : goal.returns-then-clauses-self-ge-MAX-FILINGS
-returns-then-clauses-self-ge-MAX-FILINGS c = record {
+pub returns-then-clauses-self-ge-MAX_FILINGS : goal.returns-then-clauses-self-ge-MAX_FILINGS
+returns-then-clauses-self-ge-MAX_FILINGS c = record {
   good = c.requires;
-  step = fact_full c.args.self.now c.args.p (omega (arith, c.if-p-eq0.false)) c.if-p-self.false (omega (arith, c.clauses-clauses.ensures, c.if-clauses-self-ge-MAX-FILINGS.true));
+  step = fact_full c.args.self.now c.args.p (omega (arith, c.if-p-eq0.false)) c.if-p-self.false (omega (arith, c.clauses-clauses.ensures, c.if-clauses-self-ge-MAX_FILINGS.true));
 }
 
-pub end-clause-requires : goal.end-clause-requires
-end-clause-requires c = record {
+pub end_clause-requires : goal.end_clause-requires
+end_clause-requires c = record {
   writing = filled_writing (held_rows c.args.self.now.tables) c.requires.stocked.filled;
   roomy = c.requires.stocked.usable.roomy;
-  room = omega (arith, c.requires.kept.few_opened, c.clauses-clauses.ensures, c.if-clauses-self-ge-MAX-FILINGS.false);
+  room = omega (arith, c.requires.kept.few_opened, c.clauses-clauses.ensures, c.if-clauses-self-ge-MAX_FILINGS.false);
   few = c.requires.stocked.few_places;
 }
 
@@ -23,9 +23,9 @@ pub settle-requires : goal.settle-requires
 settle-requires c =
     let st = c.args.self.now in
     let u = c.requires.stocked.usable in
-    let room : vec_len st.tables.outcomes - st.opened < 256 = omega (arith, c.clauses-clauses.ensures, c.if-clauses-self-ge-MAX-FILINGS.false) in
-    fact_stocked st _ c.args.p c.requires refl refl c.end-clause.ensures room (omega (arith, c.if-p-eq0.false)) c.if-p-self.false
-    (record { roomy = c.end-clause.ensures.roomy; ranks = u.ranks; spares = u.spares; choices = u.choices; ready = u.ready; mark_room = u.mark_room })
+    let room : vec_len st.tables.outcomes - st.opened < 256 = omega (arith, c.clauses-clauses.ensures, c.if-clauses-self-ge-MAX_FILINGS.false) in
+    fact_stocked st _ c.args.p c.requires refl refl c.end_clause.ensures room (omega (arith, c.if-p-eq0.false)) c.if-p-self.false
+    (record { roomy = c.end_clause.ensures.roomy; ranks = u.ranks; spares = u.spares; choices = u.choices; ready = u.ready; mark_room = u.mark_room })
 
 pub returns-in-Err : goal.returns-in-Err
 returns-in-Err c =
@@ -33,15 +33,15 @@ returns-in-Err c =
     let st'' = c.settle.new.self in
     let u = c.in-Err.ensures.unmoved.stocked.usable in
     let p : ℕ = c.args.p in
-    let st' : State = record { tables = c.end-clause.new.self; opened = st.opened; marks = st.marks; rank = st.rank; spare = st.spare; chosen = st.chosen; scratch = st.scratch } in
+    let st' : State = record { tables = c.end_clause.new.self; opened = st.opened; marks = st.marks; rank = st.rank; spare = st.spare; chosen = st.chosen; scratch = st.scratch } in
     let st''' : State = record { tables = c.truncate.new.self; opened = st''.opened; marks = st''.marks; rank = st''.rank; spare = st''.spare; chosen = st''.chosen; scratch = st''.scratch } in
-    let room : vec_len st.tables.outcomes - st.opened < 256 = omega (arith, c.clauses-clauses.ensures, c.if-clauses-self-ge-MAX-FILINGS.false) in
+    let room : vec_len st.tables.outcomes - st.opened < 256 = omega (arith, c.clauses-clauses.ensures, c.if-clauses-self-ge-MAX_FILINGS.false) in
     let low : 1 ≤ p = omega (arith, c.if-p-eq0.false) in
     record {
-      good = fact_good_again st st' p c.requires refl refl c.end-clause.ensures room low c.if-p-self.false st'' st''' c.in-Err.ban c.clauses-clauses.result c.in-Err.ensures c.truncate.ensures c.clauses-clauses.ensures refl refl
+      good = fact_good_again st st' p c.requires refl refl c.end_clause.ensures room low c.if-p-self.false st'' st''' c.in-Err.ban c.clauses-clauses.result c.in-Err.ensures c.truncate.ensures c.clauses-clauses.ensures refl refl
           (record { roomy = c.truncate.ensures.roomy; ranks = u.ranks; spares = u.spares; choices = u.choices; ready = u.ready; mark_room = u.mark_room })
           (λ i. vec_items (c.in-Err.ensures.ranks i));
-      step = fact_refused st st' p c.requires refl refl c.end-clause.ensures room low c.if-p-self.false st'' st''' c.in-Err.ban c.clauses-clauses.result c.in-Err.ensures c.truncate.ensures c.clauses-clauses.ensures refl refl;
+      step = fact_refused st st' p c.requires refl refl c.end_clause.ensures room low c.if-p-self.false st'' st''' c.in-Err.ban c.clauses-clauses.result c.in-Err.ensures c.truncate.ensures c.clauses-clauses.ensures refl refl;
     }
 
 pub returns-in-Ok : goal.returns-in-Ok
@@ -49,11 +49,11 @@ returns-in-Ok c =
     let st = c.args.self.now in
     let st'' = c.settle.new.self in
     let p : ℕ = c.args.p in
-    let st' : State = record { tables = c.end-clause.new.self; opened = st.opened; marks = st.marks; rank = st.rank; spare = st.spare; chosen = st.chosen; scratch = st.scratch } in
-    let room : vec_len st.tables.outcomes - st.opened < 256 = omega (arith, c.clauses-clauses.ensures, c.if-clauses-self-ge-MAX-FILINGS.false) in
+    let st' : State = record { tables = c.end_clause.new.self; opened = st.opened; marks = st.marks; rank = st.rank; spare = st.spare; chosen = st.chosen; scratch = st.scratch } in
+    let room : vec_len st.tables.outcomes - st.opened < 256 = omega (arith, c.clauses-clauses.ensures, c.if-clauses-self-ge-MAX_FILINGS.false) in
     let low : 1 ≤ p = omega (arith, c.if-p-eq0.false) in
     record {
-      good = fact_good st st' p c.requires refl refl c.end-clause.ensures room low c.if-p-self.false st'' c.in-Ok.discharged refl c.in-Ok.ensures;
-      step = fact_step st st' p c.requires refl refl c.end-clause.ensures room low c.if-p-self.false st'' c.in-Ok.discharged refl c.in-Ok.ensures
+      good = fact_good st st' p c.requires refl refl c.end_clause.ensures room low c.if-p-self.false st'' c.in-Ok.discharged refl c.in-Ok.ensures;
+      step = fact_step st st' p c.requires refl refl c.end_clause.ensures room low c.if-p-self.false st'' c.in-Ok.discharged refl c.in-Ok.ensures
           (c.clauses-clauses.result + 1) (ap (λ (n : ℕ). n + 1) c.clauses-clauses.ensures);
     }

@@ -9,13 +9,13 @@ use Rattle.round.proofs.Openings.{lent_rows, lent_few, lent_ranks}
 use Rattle.round.proofs.Withdrawals.{stood_read, stood_within, withdrawn_kept, withdrawn_satisfiable, withdrawn_stocked, withdraw_step}
 use Rattle.round.proofs.state.State.withdraw.Goals as goal
 
-pub overflow-add-kept : goal.overflow-add-kept
-overflow-add-kept c =
+pub overflow_add-kept : goal.overflow_add-kept
+overflow_add-kept c =
     let k = stood_within c.args.self.now c.args.m c.index.result.now c.requires.kept (omega (arith, c.if-m-eq0.false)) (omega (arith, c.len.ensures, c.if-m-len.false)) c.index.ensures in
     omega (arith, k, c.requires.stocked.few_clauses)
 
-pub overflow-sub-removed : goal.overflow-sub-removed
-overflow-sub-removed c =
+pub overflow_sub-removed : goal.overflow_sub-removed
+overflow_sub-removed c =
     let k = stood_within c.args.self.now c.args.m c.index.result.now c.requires.kept (omega (arith, c.if-m-eq0.false)) (omega (arith, c.len.ensures, c.if-m-len.false)) c.index.ensures in
     omega (arith, k, c.clauses.ensures)
 
@@ -41,7 +41,7 @@ ranks-requires c =
     let few = lent_few st' stocked (rows_of c.rows.result) c.rows.ensures in
     record {
       lawful = lent_rows st' stocked (rows_of c.rows.result) c.rows.ensures;
-      sizes = (omega (arith, c.deref-mut.ensures.len, u.ranks, u.spares), few.0, few.1);
+      sizes = (omega (arith, c.deref_mut.ensures.len, u.ranks, u.spares), few.0, few.1);
       ready = u.ready;
     }
 
@@ -58,7 +58,7 @@ returns c =
     let stocked : Stocked st' =
     withdrawn_stocked st st' m n c.requires low high stood refl c.truncate-2.ensures c.truncate.ensures.items
     (record { roomy = c.truncate-2.ensures.roomy; ranks = u.ranks; spares = u.spares; choices = u.choices; ready = c.ranks.ensures.ready; mark_room = omega (arith, c.truncate.ensures.capacity, u.mark_room) }) in
-    let size : length c.ranks.new.rank ≡ st.rank.len = omega (arith, c.ranks.auto.rank, c.deref-mut.ensures.len, u.ranks, u.spares) in
+    let size : length c.ranks.new.rank ≡ st.rank.len = omega (arith, c.ranks.auto.rank, c.deref_mut.ensures.len, u.ranks, u.spares) in
     record {
       good = record {
         stocked = stocked;

@@ -11,16 +11,16 @@ returns c =
     let os : List ℕ = vec_items t.outcomes in
     let ss : List ℕ = vec_items t.starts in
     let ps : List ℕ = vec_items t.places in
-    let qs : List ℕ = vec_items c.push-reserved.new.self in
+    let qs : List ℕ = vec_items c.push_reserved.new.self in
     let p : ℕ = c.args.p in
-    let is : qs ≡ ps ++ p ∷ [] = c.push-reserved.ensures.items in
+    let is : qs ≡ ps ++ p ∷ [] = c.push_reserved.ensures.items in
     let w : Writing (rows os ss ps) = c.requires.writing in
     record {
       writing = subst (λ (q : List ℕ). Writing (rows os ss q)) (sym is) (writing_place os ss ps w p);
-      roomy = record { outcome_room = c.requires.roomy.outcome_room; start_room = c.requires.roomy.start_room; place_room = omega (arith, c.push-reserved.ensures.capacity, c.requires.roomy.place_room) };
+      roomy = record { outcome_room = c.requires.roomy.outcome_room; start_room = c.requires.roomy.start_room; place_room = omega (arith, c.push_reserved.ensures.capacity, c.requires.roomy.place_room) };
       sheet = ap (λ (cs : List Clause). record { top = t.conditions; clauses = cs }) (ap (λ (q : List ℕ). clauses_in (rows os ss q)) is ∙ clauses_place os ss ps w p);
       body = ap (λ (q : List ℕ). unfinished (rows os ss q)) is ∙ body_place os ss ps w p;
       starts = refl;
       clauses_count = refl;
-      places_count = c.push-reserved.ensures.len;
+      places_count = c.push_reserved.ensures.len;
     }

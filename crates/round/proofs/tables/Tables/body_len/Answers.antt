@@ -11,8 +11,8 @@ returns-then-k-len c =
     let size : c.len.result ≡ length (vec_items t.outcomes) = c.len.ensures ∙ t.outcomes.ok.0 in
     ap (option_map (λ (x : Clause). length x.body)) (sym (none_at t.conditions (held_rows t) c.len.result c.args.i size (omega arith) (omega arith)))
 
-pub overflow-sub-result : goal.overflow-sub-result
-overflow-sub-result c =
+pub overflow_sub-result : goal.overflow_sub-result
+overflow_sub-result c =
     let size : c.len.result ≡ length (vec_items c.args.self.now.outcomes) = c.len.ensures ∙ c.args.self.now.outcomes.ok.0 in
     omega (arith, c.requires.rising (c.args.i - 1) (omega arith))
 

@@ -8,7 +8,7 @@ use Rattle.round.proofs.tables.Tables.copy_body.Goals as goal
 pub loop-j-preserved : goal.loop-j-preserved
 loop-j-preserved g c =
     let v = c.loop-j.invariant in
-    let a = c.add-place.ensures in
+    let a = c.add_place.ensures in
     let o = clause_at (g.S.Source.sheet c.args.source.now) c.args.i in (
       a.writing,
       (
@@ -16,7 +16,7 @@ loop-j-preserved g c =
         (
           a.sheet ∙ v.1.1.0,
           (
-            body_more o c.args.n c.loop-j.j c.unwrap-or-p.result c.body-at.result (unfinished (held_rows c.loop-j.self)) (unfinished (held_rows c.add-place.new.self)) c.requires.size c.loop-j-test.true v.1.1.1.0 c.body-at.ensures c.unwrap-or-p.ensures a.body,
+            body_more o c.args.n c.loop-j.j c.unwrap_or-p.result c.body_at.result (unfinished (held_rows c.loop-j.self)) (unfinished (held_rows c.add_place.new.self)) c.requires.size c.loop-j-test.true v.1.1.1.0 c.body_at.ensures c.unwrap_or-p.ensures a.body,
             (
               a.clauses_count ∙ v.1.1.1.1.0,
               omega (arith, a.places_count, v.1.1.1.1.1),

@@ -8,11 +8,11 @@ use Rattle.round.proofs.Growing.{filled_writing, filled_unfinished, writing_fill
 use Rattle.round.proofs.Copying.{nothing, here, literals_take, size_here, outcome_here, same_clause, used_more}
 use Rattle.round.proofs.tables.Tables.copy_clauses.Goals as goal
 
-pub returns-then-m-gt-MAX-CLAUSES : goal.returns-then-m-gt-MAX-CLAUSES
-returns-then-m-gt-MAX-CLAUSES g c = record {
+pub returns-then-m-gt-MAX_CLAUSES : goal.returns-then-m-gt-MAX_CLAUSES
+returns-then-m-gt-MAX_CLAUSES g c = record {
   roomy = c.requires.roomy;
   kept = λ e. absurd (let z : ◌≡◌ {A = ℕ} 0 1 = cc in omega arith);
-  refused = λ e. inl (omega (arith, c.clauses-m.ensures, c.if-m-gt-MAX-CLAUSES.true));
+  refused = λ e. inl (omega (arith, c.clauses-m.ensures, c.if-m-gt-MAX_CLAUSES.true));
 }
 
 pub loop-k-init : goal.loop-k-init
@@ -47,23 +47,23 @@ returns-then-used-more g c =
     let k : ℕ = c.loop-k.k in
     let v = c.loop-k.invariant in
     let lt : k < length s.clauses = omega (arith, c.clauses-m.ensures) in
-    let n = size_here s k w lt c.unwrap-or-n.result c.body-len.result c.body-len.ensures c.unwrap-or-n.ensures in
-    let o = outcome_here s k w lt c.unwrap-or-o.result c.outcome.result c.outcome.ensures c.unwrap-or-o.ensures in
-    let u = used_more s k w lt c.loop-k.used c.unwrap-or-n.result c.min.result c.unwrap-or-o.result v.1.1.1.1.1.1.1 n o c.min.ensures in
+    let n = size_here s k w lt c.unwrap_or-n.result c.body_len.result c.body_len.ensures c.unwrap_or-n.ensures in
+    let o = outcome_here s k w lt c.unwrap_or-o.result c.outcome.result c.outcome.ensures c.unwrap_or-o.ensures in
+    let u = used_more s k w lt c.loop-k.used c.unwrap_or-n.result c.min.result c.unwrap_or-o.result v.1.1.1.1.1.1.1 n o c.min.ensures in
     record {
       roomy = v.1.0;
       kept = λ e. absurd (let z : ◌≡◌ {A = ℕ} 0 1 = cc in omega arith);
       refused = λ e. inr (omega (arith, u, literals_take (k + 1) s.clauses, c.if-used-more.true));
     }
 
-pub copy-body-requires : goal.copy-body-requires
-copy-body-requires g c =
+pub copy_body-requires : goal.copy_body-requires
+copy_body-requires g c =
     let s : Sheet = g.S.Source.sheet c.args.source.now in
     let w : Lawful s = (g.S.Source.lawful c.args.source.now).lawful in
     let k : ℕ = c.loop-k.k in
     let v = c.loop-k.invariant in
     let lt : k < length s.clauses = omega (arith, c.clauses-m.ensures) in
-    let n = size_here s k w lt c.unwrap-or-n.result c.body-len.result c.body-len.ensures c.unwrap-or-n.ensures in
+    let n = size_here s k w lt c.unwrap_or-n.result c.body_len.result c.body_len.ensures c.unwrap_or-n.ensures in
     record {
       writing = v.0;
       roomy = v.1.0;
@@ -79,12 +79,12 @@ loop-k-preserved g c =
     let k : ℕ = c.loop-k.k in
     let v = c.loop-k.invariant in
     let lt : k < length s.clauses = omega (arith, c.clauses-m.ensures) in
-    let n = size_here s k w lt c.unwrap-or-n.result c.body-len.result c.body-len.ensures c.unwrap-or-n.ensures in
-    let o = outcome_here s k w lt c.unwrap-or-o.result c.outcome.result c.outcome.ensures c.unwrap-or-o.ensures in
-    let u = used_more s k w lt c.loop-k.used c.unwrap-or-n.result c.min.result c.unwrap-or-o.result v.1.1.1.1.1.1.1 n o c.min.ensures in
-    let b = c.copy-body.ensures in
-    let e = c.end-clause.ensures in
-    let same = same_clause s k w lt c.unwrap-or-o.result (unfinished (held_rows c.copy-body.new.self)) b.body o in (
+    let n = size_here s k w lt c.unwrap_or-n.result c.body_len.result c.body_len.ensures c.unwrap_or-n.ensures in
+    let o = outcome_here s k w lt c.unwrap_or-o.result c.outcome.result c.outcome.ensures c.unwrap_or-o.ensures in
+    let u = used_more s k w lt c.loop-k.used c.unwrap_or-n.result c.min.result c.unwrap_or-o.result v.1.1.1.1.1.1.1 n o c.min.ensures in
+    let b = c.copy_body.ensures in
+    let e = c.end_clause.ensures in
+    let same = same_clause s k w lt c.unwrap_or-o.result (unfinished (held_rows c.copy_body.new.self)) b.body o in (
       e.writing,
       (
         e.roomy,

@@ -6,17 +6,24 @@ use Rattle.text.proofs.Starts.{few_clauses}
 use Rattle.text.proofs.Lawfulness.{low, lawful}
 use Rattle.text.proofs.in_place.TextSheet.new.Goals as goal
 
-pub starts-of-requires : goal.starts-of-requires
-starts-of-requires c = let j = c.in-Ok.ensures in record { short = j.0; counted = counted c.args.text.now _ _ _ j.1 }
+pub starts_of-requires : goal.starts_of-requires
+starts_of-requires c = let j = c.in-Ok.ensures in record { short = j.0; counted = counted c.args.text.now _ _ _ j.1 }
 
-pub invariant-of-result : goal.invariant-of-result
-invariant-of-result c =
+pub invariant_of-result : goal.invariant_of-result
+invariant_of-result c =
     let j = c.in-Ok.ensures in
     let s = c.args.text.now in
-    (j.0, (small s _ _ _ j.1, (c.in-ok-starts.ensures, (low s _ _ _ j.1, (omega (arith, j.0, few_clauses s), ((lawful_tested (sheet_in _ s)).1 (lawful s _ _ _ j.1), tt))))))
+    record {
+      short = j.0;
+      small = small s _ _ _ j.1;
+      placed = c.in_ok-starts-in-Ok.ensures;
+      low = low s _ _ _ j.1;
+      few = omega (arith, j.0, few_clauses s);
+      proper = (lawful_tested (sheet_in _ s)).1 (lawful s _ _ _ j.1);
+    }
 
-pub returns-in-ok-starts : goal.returns-in-ok-starts
-returns-in-ok-starts c = let j = c.in-Ok.ensures in (j, meant_good c.args.text.now _ _ _ j.1 j.0)
+pub returns-in_ok-starts-in-Ok : goal.returns-in_ok-starts-in-Ok
+returns-in_ok-starts-in-Ok c = let j = c.in-Ok.ensures in (j, meant_good c.args.text.now _ _ _ j.1 j.0)
 
 pub returns-in-Err : goal.returns-in-Err
 returns-in-Err c = (c.judge-verdict.ensures, meant_refused c.args.text.now _ c.judge-verdict.result c.in-Err.field-0 c.in-Err.is c.judge-verdict.ensures refl)

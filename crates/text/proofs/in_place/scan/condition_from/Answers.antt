@@ -4,7 +4,7 @@ use Rattle.horn.specs.Sources.{at_place}
 use Rattle.text.specs.Reading.{body_in}
 use Rattle.text.proofs.Scan.{body_close, body_letter, body_negated, body_other, body_end, place_none, place_one, place_past}
 use Rattle.text.proofs.in_place.scan.condition_from.Goals as goal
-use Rattle.text.proofs.in_place.scan.condition_from.Goals.{in-P+then-neg+else-k-eq1, in-P+else-neg, in-default}
+use Rattle.text.proofs.in_place.scan.condition_from.Goals.{in-P+then-neg+else-k-eq1, in-P+else-neg, in_default}
 
 pub returns-then-j-eq0 : goal.returns-then-j-eq0
 returns-then-j-eq0 c =
@@ -34,22 +34,22 @@ loop-p-preserved c =
     elim c.match-s-p.branch [
       | in-P+then-neg+else-k-eq1 w ↦
           let e = ap (λ n. body_in n (drop p s)) w.if-neg.true ∙ (body_negated s p c.loop-p-test.true w.in-P.is) in
-          let m : c.match-s-p.k ≡ k - 1 = omega (arith, w.k_is) in (
+          let m : c.match-s-p.k ≡ k - 1 = omega (arith, w.k-is) in (
             ap (λ n. at_place (body_in n (drop (p + 1) s)) c.match-s-p.k) w.neg-is
                 ∙ (ap (at_place (body_in false (drop (p + 1) s))) m
                 ∙ (sym (ap (λ x. at_place x k) e ∙ place_past (lead_value (drop (p + 1) s)) (body_in false (drop (p + 1) s)) k c.loop-p.invariant.1 w.if-k-eq1.false) ∙ c.loop-p.invariant.0)),
-            omega (arith, w.k_is, w.if-k-eq1.false),
+            omega (arith, w.k-is, w.if-k-eq1.false),
           )
       | in-P+else-neg w ↦
           let e = ap (λ n. body_in n (drop p s)) w.if-neg.false ∙ (body_letter s p c.loop-p-test.true w.in-P.is) in (
             ap (λ n. at_place (body_in n (drop (p + 1) s)) c.match-s-p.k) w.neg-is
-                ∙ (ap (at_place (body_in false (drop (p + 1) s))) w.k_is ∙ (sym (ap (λ x. at_place x k) e) ∙ c.loop-p.invariant.0)),
-            omega (arith, w.k_is),
+                ∙ (ap (at_place (body_in false (drop (p + 1) s))) w.k-is ∙ (sym (ap (λ x. at_place x k) e) ∙ c.loop-p.invariant.0)),
+            omega (arith, w.k-is),
           )
-      | in-default w ↦
+      | in_default w ↦
           let e = body_other s p c.loop-p-test.true c.loop-p.neg (λ e. omega arith) (λ e. omega arith) in (
             ap (λ n. at_place (body_in n (drop (p + 1) s)) c.match-s-p.k) w.neg-is
-                ∙ (ap (at_place (body_in _ (drop (p + 1) s))) w.k_is ∙ (sym (ap (λ x. at_place x k) e) ∙ c.loop-p.invariant.0)),
-            omega (arith, w.k_is),
+                ∙ (ap (at_place (body_in _ (drop (p + 1) s))) w.k-is ∙ (sym (ap (λ x. at_place x k) e) ∙ c.loop-p.invariant.0)),
+            omega (arith, w.k-is),
           )
     ]

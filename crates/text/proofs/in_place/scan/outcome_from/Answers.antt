@@ -4,7 +4,7 @@ use Rattle.horn.specs.Sheets.{outcome_number}
 use Rattle.text.specs.Reading.{outcome_in}
 use Rattle.text.proofs.Scan.{outcome_close, outcome_letter, outcome_negated, outcome_other, outcome_end}
 use Rattle.text.proofs.in_place.scan.outcome_from.Goals as goal
-use Rattle.text.proofs.in_place.scan.outcome_from.Goals.{in-P+else-not-neg, in-default}
+use Rattle.text.proofs.in_place.scan.outcome_from.Goals.{in-P+else-not-neg, in_default}
 
 pub returns : goal.returns
 returns c = ap outcome_number (sym (outcome_end c.args.s.now c.loop-p.p c.loop-p.neg c.loop-p-test.false) ∙ c.loop-p.invariant)
@@ -27,7 +27,7 @@ loop-p-preserved c =
       | in-P+else-not-neg w ↦
           ap (λ b. outcome_in b (drop (p + 1) s)) w.neg-is
           ∙ (sym (outcome_negated s p c.loop-p-test.true w.in-P.is) ∙ (sym (ap (λ b. outcome_in b (drop p s)) w.if-not-neg.false) ∙ c.loop-p.invariant))
-      | in-default w ↦
+      | in_default w ↦
           ap (λ b. outcome_in b (drop (p + 1) s)) w.neg-is
           ∙ (sym (outcome_other s p c.loop-p-test.true c.loop-p.neg (λ e. omega arith) (λ e. omega arith)) ∙ c.loop-p.invariant)
     ]

@@ -2,7 +2,7 @@ use Rattle.std.proofs.Common.{◌+◌, length, drop, ap, ◌∙◌, arith}
 use Rattle.text.specs.Reading.{body_in}
 use Rattle.text.proofs.Scan.{body_close, body_letter, body_negated, body_other, body_end}
 use Rattle.text.proofs.in_place.scan.size_from.Goals as goal
-use Rattle.text.proofs.in_place.scan.size_from.Goals.{in-P+then-neg, in-P+else-neg, in-default}
+use Rattle.text.proofs.in_place.scan.size_from.Goals.{in-P+then-neg, in-P+else-neg, in_default}
 
 pub returns : goal.returns
 returns c = omega (arith, ap length (body_end c.args.s.now c.loop-p.p c.loop-p.neg c.loop-p-test.false))
@@ -18,13 +18,13 @@ loop-p-preserved c =
       | in-P+then-neg w ↦
           let e = ap (λ n. body_in n (drop p s)) w.if-neg.true ∙ (body_negated s p c.loop-p-test.true w.in-P.is) in
           let f = ap (λ n. length (body_in n (drop (p + 1) s))) w.neg-is in
-          (omega (arith, ap length e, f, w.n_is), omega (arith, w.n_is))
+          (omega (arith, ap length e, f, w.n-is), omega (arith, w.n-is))
       | in-P+else-neg w ↦
           let e = ap (λ n. body_in n (drop p s)) w.if-neg.false ∙ (body_letter s p c.loop-p-test.true w.in-P.is) in
           let f = ap (λ n. length (body_in n (drop (p + 1) s))) w.neg-is in
-          (omega (arith, ap length e, f, w.n_is), omega (arith, w.n_is))
-      | in-default w ↦
+          (omega (arith, ap length e, f, w.n-is), omega (arith, w.n-is))
+      | in_default w ↦
           let e = body_other s p c.loop-p-test.true c.loop-p.neg (λ e. omega arith) (λ e. omega arith) in
           let f = ap (λ n. length (body_in n (drop (p + 1) s))) w.neg-is in
-          (omega (arith, ap length e, f, w.n_is), omega (arith, w.n_is))
+          (omega (arith, ap length e, f, w.n-is), omega (arith, w.n-is))
     ]
