@@ -5,20 +5,20 @@ use Rattle.console.specs.Session.{Judging, verdict_reply, kept}
 use Rattle.console.proofs.Answering.{printed_by}
 use Rattle.console.proofs.answers.judge_sheet.Goals as goal
 
-pub returns-in-ok-accept : goal.returns-in-ok-accept
-returns-in-ok-accept c =
+pub returns-in_ok-accept-in-Ok : goal.returns-in_ok-accept-in-Ok
+returns-in_ok-accept-in-Ok c =
     let v = c.in-Ok.ensures in
     record {
       reply = accepted (c.in-Ok.c.clauses ∷ c.in-Ok.c.conditions ∷ c.in-Ok.c.literals ∷ []);
       fits = record {
-        verdict = c.in-ok-sheet.sheet.verdict;
-        sheet = text_sheet c.in-ok-sheet.sheet;
-        judged = c.in-ok-sheet.ensures.0;
-        meant = c.in-ok-sheet.ensures.1;
+        verdict = c.in_ok-sheet.sheet.verdict;
+        sheet = text_sheet c.in_ok-sheet.sheet;
+        judged = c.in_ok-sheet.ensures.0;
+        meant = c.in_ok-sheet.ensures.1;
         reply = ap verdict_reply v;
-        holds = ap (λ w. kept w (text_sheet c.in-ok-sheet.sheet) (text_sheet c.args.held.now)) v;
+        holds = ap (λ w. kept w (text_sheet c.in_ok-sheet.sheet) (text_sheet c.args.held.now)) v;
       };
-      whole = c.in-ok-accept.ensures;
+      whole = c.in_ok-accept-in-Ok.ensures;
     }
 
 pub returns-in-Err : goal.returns-in-Err
@@ -28,11 +28,11 @@ returns-in-Err c =
     (refused in_text c.number.result (optional c.place.result))
     (λ y. Judging c.args.bytes.now (text_sheet c.args.held.now) y (text_sheet c.args.held.now))
     (record {
-      verdict = c.in-ok-sheet.sheet.verdict;
-      sheet = text_sheet c.in-ok-sheet.sheet;
-      judged = c.in-ok-sheet.ensures.0;
-      meant = c.in-ok-sheet.ensures.1;
+      verdict = c.in_ok-sheet.sheet.verdict;
+      sheet = text_sheet c.in_ok-sheet.sheet;
+      judged = c.in_ok-sheet.ensures.0;
+      meant = c.in_ok-sheet.ensures.1;
       reply = (λ i. refused in_text (c.number.ensures i) (optional (c.place.ensures i))) ∙ ap verdict_reply v;
-      holds = ap (λ w. kept w (text_sheet c.in-ok-sheet.sheet) (text_sheet c.args.held.now)) v;
+      holds = ap (λ w. kept w (text_sheet c.in_ok-sheet.sheet) (text_sheet c.args.held.now)) v;
     })
     c.refuse.ensures

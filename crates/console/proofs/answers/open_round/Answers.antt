@@ -7,5 +7,5 @@ use Rattle.console.proofs.answers.open_round.Goals as goal
 pub returns : goal.returns
 returns c =
     let o = c.open.ensures in
-    printed_by c.print-opened.result (codes "OP") (string_bytes c.args.out.now) (string_bytes c.print-opened.new.out) (answer_reply (opening_answer c.open.result)) _
-    (record { answer = _; opens = o.answer; reply = refl; holds = λ i. record { sheet = o.sheet i; standing = o.standing i } }) c.print-opened.ensures
+    printed_by c.print_opened.result (codes "OP") (string_bytes c.args.out.now) (string_bytes c.print_opened.new.out) (answer_reply (opening_answer c.open.result)) _
+    (record { answer = _; opens = o.answer; reply = refl; holds = λ i. record { sheet = o.sheet i; standing = o.standing i } }) c.print_opened.ensures

@@ -5,7 +5,7 @@ use Rattle.console.proofs.lines.push_numbers.Goals as goal
 
 pub loop-n-preserved : goal.loop-n-preserved
 loop-n-preserved c =
-    let e = c.in-ok-push-number.ensures in
+    let e = c.in_ok-push_number.ensures in
     let m = numbers_more (string_bytes c.args.out.now) c.args.list.now c.loop-n.n-index (omega arith) in
     cc
 
