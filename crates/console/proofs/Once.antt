@@ -1,6 +1,6 @@
 -- An input has one reading, and one output.
 use Rattle.std.proofs.Common.{◌≡◌, ℕ, ◌+◌, ◌*◌, ◌/◌, ◌%◌, ◌≤◌, cond, ◌&&◌, eqb, List, [], ◌∷◌, ◌++◌, length, take, drop, Some, None, Ok, Err, Option, Result, unwrap_or, sym, refl, ap, ◌∙◌, subst, append_assoc, arith}
-use Rattle.std.specs.List.{AllByRecursion as All}
+use Rattle.std.specs.List.{AllByRecursion}
 use Rattle.std.proofs.lemmas.List.{take_at, drop_at}
 use Rattle.horn.specs.Sheets.{Sheet}
 use Rattle.horn.specs.Joining.{joined}
@@ -63,7 +63,7 @@ front_once r q a b e =
     let h : Some (r, a) ≡ Some (q, b) = sym (first_read r a) ∙ ap first e ∙ first_read q b in
     (ap (λ (o : Option (Record × List ℕ)). (unwrap_or o (r, a)).0) h, ap (λ (o : Option (Record × List ℕ)). (unwrap_or o (r, a)).1) h)
 
-reading_once : (rs qs : List Record) (a b : List ℕ) → All Fitting rs → All Fitting qs → NoRecord a → NoRecord b
+reading_once : (rs qs : List Record) (a b : List ℕ) → AllByRecursion Fitting rs → AllByRecursion Fitting qs → NoRecord a → NoRecord b
     → all_bytes rs ++ a ≡ all_bytes qs ++ b → (rs ≡ qs) × (a ≡ b)
 reading_once [] [] a b f g m n e = (refl, e)
 reading_once [] (q ∷ qs) a b f g m n e = absurd (m q (all_bytes qs ++ b) g.0 (e ∙ append_assoc (bytes_of q) (all_bytes qs) b))

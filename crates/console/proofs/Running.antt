@@ -1,6 +1,6 @@
 -- A session without an opening, as a run of the round; and one that opens, with the round's promise.
 use Rattle.std.proofs.Common.{◌≡◌, ℕ, List, [], ◌∷◌, ◌++◌, sym, refl, ap, ◌∙◌, subst, append_assoc}
-use Rattle.std.specs.List.{AllByRecursion as All}
+use Rattle.std.specs.List.{AllByRecursion}
 use Rattle.horn.specs.Joining.{joined, joined_lawful}
 use Rattle.round.proofs.Promise.{opening_promised}
 use Rattle.round.specs.Calls.{Call, mark as set_mark, event, after}
@@ -38,7 +38,7 @@ one_record st next to opening y rs out p n w = absurd n
 one_record st next to marking y rs out p n w = after_call marking y set_mark st.of_round next.of_round to rs out refl p.0 w
 one_record st next to (calling v k) y rs out p n w = after_call (calling v k) y (call_of v k) st.of_round next.of_round to rs out refl p.0 w
 
-runs : {st last : State} {rs : List Record} {out : List ℕ} → Session st rs out last → All NoOpening rs → Running st.of_round rs out last.of_round
+runs : {st last : State} {rs : List Record} {out : List ℕ} → Session st rs out last → AllByRecursion NoOpening rs → Running st.of_round rs out last.of_round
 runs done n = record { events = []; run = tt; printed = no_lines; left = refl }
 runs {st} {last} (step {next = next} {r = r} {rs = rs} {out = out} y p s) n = one_record st next last.of_round r y rs out p n.0 (runs s n.1)
 
@@ -62,7 +62,7 @@ cut (r ∷ rs) qs (step {out = out} y p s) =
     record { mid = w.mid; first = l ++ w.first; second = w.second; one = step y p w.one; two = w.two; whole = ap (λ (k : List ℕ). l ++ k) w.whole ∙ sym (append_assoc l w.first w.second) }
 
 opened_run : (before rs : List Record) (earlier : List ℕ) (st : State) {last : State} {out : List ℕ} → Session at_first before earlier st → Session st (opening ∷ rs) out last
-    → All NoOpening rs → OpenedRun before rs (earlier ++ out) last.of_round
+    → AllByRecursion NoOpening rs → OpenedRun before rs (earlier ++ out) last.of_round
 opened_run before rs earlier st {last} first (step {next = next} {out = lines} y p s) n =
     let law = lawful_session first in
     let o = p.0 in

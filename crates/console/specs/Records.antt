@@ -1,6 +1,6 @@
 -- The records of the console's input, and how they lie in it. Assumes nothing.
 use Rattle.std.specs.Prelude.{◌≡◌, ℕ, ◌/◌, ◌%◌, ◌<◌, List, [], ◌∷◌, ◌++◌, length, codes, ◌≢◌}
-use Rattle.std.specs.List.{flat_map, AllByRecursion as All}
+use Rattle.std.specs.List.{flat_map, AllByRecursion}
 
 -- what a record with a number asks of the round: a fact or a ban of the condition, a withdrawal to the mark, whether or how the condition is in force
 pub data Verb : Type 0 where
@@ -66,7 +66,7 @@ all_bytes rs = flat_map bytes_of rs
 
 -- The input is these records and then a rest at which no record begins.
 pub record Parsed (input : List ℕ) (rs : List Record) (rest : List ℕ) : Type 0 where
-  pub fitting : All Fitting rs
+  pub fitting : AllByRecursion Fitting rs
   pub whole : input ≡ all_bytes rs ++ rest
   pub ended : NoRecord rest
 

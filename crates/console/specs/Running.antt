@@ -1,6 +1,6 @@
 -- Between two openings the records of a session make a run of the round, and every line of a call is that of its event. Assumes nothing.
 use Rattle.std.specs.Prelude.{◌≡◌, ℕ, List, [], ◌∷◌, ◌++◌, codes}
-use Rattle.std.specs.List.{AllByRecursion as All}
+use Rattle.std.specs.List.{AllByRecursion}
 use Rattle.horn.specs.Joining.{joined}
 use Rattle.round.specs.Answers.{Answer, Opens, opened}
 use Rattle.round.specs.Calls.{Call, mark as set_mark, Event, stands}
@@ -41,7 +41,7 @@ pub record Running (from : Position) (rs : List Record) (out : List ℕ) (to : P
 
 -- Without an opening, a session is a run from what stood at its start.
 abbrev pub SessionRuns : Type 0
-SessionRuns = (st last : State) (rs : List Record) (out : List ℕ) → Session st rs out last → All NoOpening rs → Running st.of_round rs out last.of_round
+SessionRuns = (st last : State) (rs : List Record) (out : List ℕ) → Session st rs out last → AllByRecursion NoOpening rs → Running st.of_round rs out last.of_round
 
 -- An opening after the records `before`, answered with the round's promise on the sheets accepted so far; the records rs after it make a run from then on.
 pub record OpenedRun (before rs : List Record) (out : List ℕ) (last : Position) : Type 0 where
@@ -57,5 +57,5 @@ pub record OpenedRun (before rs : List Record) (out : List ℕ) (last : Position
 
 -- Every opening of the console keeps the round's promise, in all lines up to the next opening.
 abbrev pub OpeningsPromised : Type 0
-OpeningsPromised = (before rs : List Record) (out : List ℕ) (last : State) → Session at_first (before ++ (opening ∷ rs)) out last → All NoOpening rs
+OpeningsPromised = (before rs : List Record) (out : List ℕ) (last : State) → Session at_first (before ++ (opening ∷ rs)) out last → AllByRecursion NoOpening rs
     → OpenedRun before rs out last.of_round

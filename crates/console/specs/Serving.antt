@@ -1,6 +1,6 @@
 -- What the parts of the program do, in the terms of Session.
 use Rattle.std.specs.Prelude.{◌≡◌, ℕ, ◌≤◌, List, ◌++◌, length, Ok, Err, Result}
-use Rattle.std.specs.List.{AllByRecursion as All}
+use Rattle.std.specs.List.{AllByRecursion}
 use Rattle.text.specs.InPlace.{text_sheet}
 use Rattle.round.specs.declared.refusals.Explained.{Explained}
 use Rattle.round.specs.declared.refusals.Refusal.{Refusal}
@@ -23,7 +23,7 @@ pub record Printed (mark before after : List ℕ) (Fits : Reply → Type 0) : Ty
 -- Up to the rest the input was read as records; these printed the text and left the state.
 pub record SoFar (input rest out : List ℕ) (st : State) : Type 0 where
   pub records : List Record
-  pub fitting : All Fitting records
+  pub fitting : AllByRecursion Fitting records
   pub whole : input ≡ all_bytes records ++ rest
   pub session : Session at_first records out st
 

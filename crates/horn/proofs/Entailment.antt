@@ -1,7 +1,7 @@
 -- The theorems about choices and pebblings.
 -- Assumes nothing.
 use Rattle.std.proofs.Common.{◌≡◌, ℕ, zero, suc, ◌<◌, ◌≤◌, Bool, true, false, cond, not, ◌&&◌, ◌||◌, ◌⊎◌, List, [], ◌∷◌, Some, None, Option, sym, refl, ap, ◌∙◌, subst, inl, inr, ⊎_elim, arith}
-use Rattle.std.specs.List.{slice_get, AllByRecursion as All}
+use Rattle.std.specs.List.{slice_get, AllByRecursion}
 use Rattle.std.proofs.ByRecursion.{All-weaker}
 use Rattle.std.proofs.lemmas.Bool.{both_ways, or_left, or_right, cases_Bool, not_from_false, not_from_true, or_from, or_parts, and_parts}
 use Rattle.horn.specs.Sheets.{all_of, any_of, Clause, Sheet, Lawful, Condition, Choice, gives, satisfies, Satisfies, holds_outcome, clause_at}
@@ -38,11 +38,11 @@ pub explained : Claims.Explained
 explained s w q f = let e = explanation_pebbles s w q (in_force_has s w q f) in (e.0, e.1, λ ns h. omega (arith, e.1, rank_least s q ns h))
 
 -- a set either lacks a condition of the list or holds them all
-lacks_or_all : (v : ℕ → Bool) (ps : List ℕ) → (any_of (λ p. not (v p)) ps ≡ true) ⊎ All (λ p. v p ≡ true) ps
+lacks_or_all : (v : ℕ → Bool) (ps : List ℕ) → (any_of (λ p. not (v p)) ps ≡ true) ⊎ AllByRecursion (λ p. v p ≡ true) ps
 lacks_or_all v [] = inr tt
 lacks_or_all v (p ∷ ps) = step (v p) refl (lacks_or_all v ps)
   where
-    step : (b : Bool) → v p ≡ b → (any_of (λ p. not (v p)) ps ≡ true) ⊎ All (λ p. v p ≡ true) ps → ((not b || any_of (λ p. not (v p)) ps) ≡ true) ⊎ ((v p ≡ true) × All (λ p. v p ≡ true) ps)
+    step : (b : Bool) → v p ≡ b → (any_of (λ p. not (v p)) ps ≡ true) ⊎ AllByRecursion (λ p. v p ≡ true) ps → ((not b || any_of (λ p. not (v p)) ps) ≡ true) ⊎ ((v p ≡ true) × AllByRecursion (λ p. v p ≡ true) ps)
     step true e (inl h) = inl h
     step true e (inr h) = inr (e, h)
     step false e r = inl refl
@@ -51,14 +51,14 @@ pub closed : Claims.Closed
 closed s w = all_by_nth (λ c. (q : ℕ) → c.outcome ≡ Some q → satisfies (in_force s) c ≡ true) s.clauses step
   where
     step : (i : ℕ) (c : Clause) → slice_get s.clauses i ≡ Some c → (q : ℕ) → c.outcome ≡ Some q → satisfies (in_force s) c ≡ true
-    step i c e q o = ⊎_elim (λ (h : any_of (λ p. not (in_force s p)) c.body ≡ true). or_left _ _ h) (λ (h : All (λ p. in_force s p ≡ true) c.body). or_right (any_of (λ p. not (in_force s p)) c.body) _ (ap (holds_outcome (in_force s)) o ∙ levels_stop s w (suc s.top) q (level_more s s.top q i c e (outcome_gives c q o) (all_from (in_force s) c.body h)))) (lacks_or_all (in_force s) c.body)
+    step i c e q o = ⊎_elim (λ (h : any_of (λ p. not (in_force s p)) c.body ≡ true). or_left _ _ h) (λ (h : AllByRecursion (λ p. in_force s p ≡ true) c.body). or_right (any_of (λ p. not (in_force s p)) c.body) _ (ap (holds_outcome (in_force s)) o ∙ levels_stop s w (suc s.top) q (level_more s s.top q i c e (outcome_gives c q o) (all_from (in_force s) c.body h)))) (lacks_or_all (in_force s) c.body)
 
 -- the set of the conditions in force, as a choice
 abbrev pub standing : (s : Sheet) → Lawful s → Choice s
 standing s w = record { holds = in_force s; within = level_condition s w s.top }
 
 -- it satisfies the sheet, or a ban is broken
-pub standing_or_broken : (s : Sheet) → Lawful s → All (λ c. satisfies (in_force s) c ≡ true) s.clauses ⊎ ((n : ℕ) × Broken s n)
+pub standing_or_broken : (s : Sheet) → Lawful s → AllByRecursion (λ c. satisfies (in_force s) c ≡ true) s.clauses ⊎ ((n : ℕ) × Broken s n)
 standing_or_broken s w = ⊎_elim (λ (h : all_of (satisfies (in_force s)) s.clauses ≡ true). inl (all_true (satisfies (in_force s)) s.clauses h)) (λ h. inr (found h)) (cases_Bool (all_of (satisfies (in_force s)) s.clauses))
   where
     failing : (cs : List Clause) → all_of (satisfies (in_force s)) cs ≡ false → (i : ℕ) × (c : Clause) × (slice_get cs i ≡ Some c) × (satisfies (in_force s) c ≡ false)
@@ -72,7 +72,7 @@ standing_or_broken s w = ⊎_elim (λ (h : all_of (satisfies (in_force s)) s.cla
     found : all_of (satisfies (in_force s)) s.clauses ≡ false → (n : ℕ) × Broken s n
     found h =
         let r = failing s.clauses h in
-        (suc r.0, record { clause = r.1; numbers = r.2; ban = ban r.0 r.1 r.2 r.3 r.1.outcome refl; in_force = ⊎_elim (λ (a : any_of (λ p. not (in_force s p)) r.1.body ≡ true). absurd (both_ways _ (or_parts _ _ r.3).0 a)) (λ (a : All (λ p. in_force s p ≡ true) r.1.body). All-weaker (λ p. in_force s p ≡ true) (InForce s) (in_force_is s w) r.1.body a) (lacks_or_all (in_force s) r.1.body) })
+        (suc r.0, record { clause = r.1; numbers = r.2; ban = ban r.0 r.1 r.2 r.3 r.1.outcome refl; in_force = ⊎_elim (λ (a : any_of (λ p. not (in_force s p)) r.1.body ≡ true). absurd (both_ways _ (or_parts _ _ r.3).0 a)) (λ (a : AllByRecursion (λ p. in_force s p ≡ true) r.1.body). All-weaker (λ p. in_force s p ≡ true) (InForce s) (in_force_is s w) r.1.body a) (lacks_or_all (in_force s) r.1.body) })
 
 -- a broken ban is satisfied by no choice
 pub broken_never : (s : Sheet) (n : ℕ) → Broken s n → (v : Choice s) → Satisfies s v → ⊥

@@ -1,7 +1,7 @@
 -- The chosen clauses of what a condition needs are a pebbling of it, as short as any.
 -- Assumes nothing.
 use Rattle.std.proofs.Common.{◌≡◌, ℕ, zero, suc, ◌+◌, ◌-◌, ◌<◌, ◌≤◌, max, Bool, true, false, cond, not, ◌&&◌, ◌||◌, eqb, ltb, ◌⊎◌, List, [], ◌∷◌, ◌++◌, map, length, get_or, Some, None, Option, sym, refl, ap, ◌∙◌, subst, inl, inr, ⊎_elim, arith}
-use Rattle.std.specs.List.{slice_get, AllByRecursion as All}
+use Rattle.std.specs.List.{slice_get, AllByRecursion}
 use Rattle.std.proofs.lemmas.List.{map_push, get_or_push, length_push, append_assoc, append-nil}
 use Rattle.std.proofs.ByRecursion.{All-weaker, All-push}
 use Rattle.std.proofs.lemmas.Bool.{and_parts, and_from, or_cases, or_left, or_right, or_from, both_ways, cases_lt, cases_Bool, eqb-true, eqb-false, eq-eqb, ne_eqb, lt-ltb, ltb-true, cond-true, cond-false}
@@ -41,7 +41,7 @@ pub record Choosing (s : Sheet) (p : ℕ) : Type 0 where
   pub clause : Clause
   pub numbers : clause_at s (chosen s p) ≡ Some clause
   pub outcome : clause.outcome ≡ Some p
-  pub shorter : All (λ b. rank s b < rank s p) clause.body
+  pub shorter : AllByRecursion (λ b. rank s b < rank s p) clause.body
 
 pub explains_some : (s : Sheet) (p : ℕ) → level s s.top p ≡ true → any_of (explains s p) s.clauses ≡ true
 explains_some s p h =
@@ -66,8 +66,8 @@ choosing s p h =
 pub chosen_body_is : (s : Sheet) (p : ℕ) (c : Choosing s p) → chosen_body s p ≡ c.clause.body
 chosen_body_is s p c = ap body_of c.numbers
 
-pub body_shorter : (s : Sheet) (p : ℕ) → level s s.top p ≡ true → All (λ b. rank s b < rank s p) (chosen_body s p)
-body_shorter s p h = let c = choosing s p h in subst (λ (bs : List ℕ). All (λ b. rank s b < rank s p) bs) (sym (chosen_body_is s p c)) c.shorter
+pub body_shorter : (s : Sheet) (p : ℕ) → level s s.top p ≡ true → AllByRecursion (λ b. rank s b < rank s p) (chosen_body s p)
+body_shorter s p h = let c = choosing s p h in subst (λ (bs : List ℕ). AllByRecursion (λ b. rank s b < rank s p) bs) (sym (chosen_body_is s p c)) c.shorter
 
 pub body_in_force : (s : Sheet) (p b : ℕ) → level s s.top p ≡ true → rank s b < rank s p → level s s.top b ≡ true
 body_in_force s p b h l = rank_top s b (omega (arith, rank_below s s.top p h))
@@ -79,17 +79,17 @@ chosen_gives s x p h = let c = choosing s x h in ap (λ (o : Option Clause). is 
 abbrev pub mem : List ℕ → ℕ → Bool
 mem L p = any_of (λ x. eqb x p) L
 
-pub all_by_mem : (P : ℕ → Type 0) (L : List ℕ) → ((p : ℕ) → mem L p ≡ true → P p) → All P L
+pub all_by_mem : (P : ℕ → Type 0) (L : List ℕ) → ((p : ℕ) → mem L p ≡ true → P p) → AllByRecursion P L
 all_by_mem P L h = all_by_nth P L (λ i x e. h x (any_from (λ y. eqb y x) L i x e (eq-eqb x x refl)))
 
 pub mem_push_cases : (L : List ℕ) (x p : ℕ) → mem (L ++ x ∷ []) p ≡ true → (mem L p ≡ true) ⊎ (x ≡ p)
 mem_push_cases L x p h = ⊎_elim inl (λ (k : (eqb x p || false) ≡ true). ⊎_elim (λ (e : eqb x p ≡ true). inr (eqb-true x p e)) (λ (e : false ≡ true). absurd (both_ways false refl e)) (or_cases (eqb x p) false k)) (or_cases (mem L p) (mem (x ∷ []) p) (sym (any_append (λ y. eqb y p) L (x ∷ [])) ∙ h))
 
-sorted_push : (s : Sheet) (L : List ℕ) (x : ℕ) → Sorted s L → All (λ y. Before s y x) L → Sorted s (L ++ x ∷ [])
+sorted_push : (s : Sheet) (L : List ℕ) (x : ℕ) → Sorted s L → AllByRecursion (λ y. Before s y x) L → Sorted s (L ++ x ∷ [])
 sorted_push s [] x h a = (tt, tt)
 sorted_push s (y ∷ L) x h a = (All-push (Before s y) L x h.0 a.0, sorted_push s L x h.1 a.1)
 
-pub longest_lt : (t : ℕ → ℕ) (ps : List ℕ) (n : ℕ) → 0 < n → All (λ p. t p < n) ps → longest t ps < n
+pub longest_lt : (t : ℕ → ℕ) (ps : List ℕ) (n : ℕ) → 0 < n → AllByRecursion (λ p. t p < n) ps → longest t ps < n
 longest_lt t [] n l h = l
 longest_lt t (p ∷ ps) n l h = let a = h.0 in let b = longest_lt t ps n l h.1 in omega arith
 
@@ -103,7 +103,7 @@ pub record Good (s : Sheet) (L : List ℕ) : Type 0 where
 pub good_none : (s : Sheet) → Good s []
 good_none s = record { steps = λ i l. let w : ⊥ = omega arith in absurd w; same = λ p. refl; lens = λ p h. absurd (both_ways false refl h); sorted = tt }
 
-pub good_push : (s : Sheet) (L : List ℕ) (x : ℕ) → level s s.top x ≡ true → mem L x ≡ false → All (λ b. mem L b ≡ true) (chosen_body s x) → All (λ y. Before s y x) L → Good s L → Good s (L ++ x ∷ [])
+pub good_push : (s : Sheet) (L : List ℕ) (x : ℕ) → level s s.top x ≡ true → mem L x ≡ false → AllByRecursion (λ b. mem L b ≡ true) (chosen_body s x) → AllByRecursion (λ y. Before s y x) L → Good s L → Good s (L ++ x ∷ [])
 good_push s L x h fresh body late g =
     record {
       steps = rw (map_push (chosen s) L x) (steps_push s old (chosen s x) g.steps allowed);
@@ -118,8 +118,8 @@ good_push s L x h fresh body late g =
     c : Choosing s x
     c = choosing s x h
 
-    inside : All (λ b. mem L b ≡ true) c.clause.body
-    inside = subst (λ (bs : List ℕ). All (λ b. mem L b ≡ true) bs) (chosen_body_is s x c) body
+    inside : AllByRecursion (λ b. mem L b ≡ true) c.clause.body
+    inside = subst (λ (bs : List ℕ). AllByRecursion (λ b. mem L b ≡ true) bs) (chosen_body_is s x c) body
 
     allowed : Allowed s old (chosen s x)
     allowed = record { clause = c.clause; outcome = x; numbers = c.numbers; no_ban = c.outcome; fresh = g.same x ∙ fresh; ready = All-weaker (λ b. mem L b ≡ true) (λ b. given s old b ≡ true) (λ b k. g.same b ∙ k) c.clause.body inside }
@@ -130,7 +130,7 @@ good_push s L x h fresh body late g =
     m : ℕ
     m = longest (lengths s old) c.clause.body
 
-    ranks : All (λ b. lengths s old b ≡ rank s b) c.clause.body
+    ranks : AllByRecursion (λ b. lengths s old b ≡ rank s b) c.clause.body
     ranks = All-weaker (λ b. mem L b ≡ true) (λ b. lengths s old b ≡ rank s b) g.lens c.clause.body inside
 
     below : m < rank s x
@@ -216,7 +216,7 @@ reaches_fuel s (suc j) (suc k) q p h l r = ⊎_elim (λ (g : eqb q p ≡ true). 
         let m = all_nth (λ b. rank s b < rank s q) (chosen_body s q) a.0 a.1 a.2 (body_shorter s q h) in
         or_right (eqb q p) _ (any_from (λ b. reaches s k b p) (chosen_body s q) a.0 a.1 a.2 (ih a.1 (body_in_force s q a.1 h m) (omega arith) a.3))
 
-pub needed_body : (s : Sheet) (q p : ℕ) → level s s.top q ≡ true → needed s q p ≡ true → All (λ b. needed s q b ≡ true) (chosen_body s p)
+pub needed_body : (s : Sheet) (q p : ℕ) → level s s.top q ≡ true → needed s q p ≡ true → AllByRecursion (λ b. needed s q b ≡ true) (chosen_body s p)
 needed_body s q p h r = all_by_nth (λ b. needed s q b ≡ true) (chosen_body s p) (λ i b e. reaches_fuel s (suc s.top) s.top q b h (omega (arith, rank_below s s.top q h)) (reaches_more s s.top q p i b r e))
 
 -- the conditions that q needs, up to a rank, are in good order
@@ -254,7 +254,7 @@ good_ordered s w q h (suc d) = go (good_ordered s w q h d) s.top
         inside : (b : ℕ) → needed s q b ≡ true → rank s b < rank s (suc n) → mem (A ++ listed f n) b ≡ true
         inside b u v = any_append (λ z. eqb z b) A (listed f n) ∙ or_left _ _ (ordered_has s q d b (level_condition s w s.top b (reaches_in_force s s.top q b h u).0) u (omega (arith, at_d)))
 
-        body : All (λ b. mem (A ++ listed f n) b ≡ true) (chosen_body s (suc n))
+        body : AllByRecursion (λ b. mem (A ++ listed f n) b ≡ true) (chosen_body s (suc n))
         body = all_both (λ b. needed s q b ≡ true) (λ b. rank s b < rank s (suc n)) (λ b. mem (A ++ listed f n) b ≡ true) inside (chosen_body s (suc n)) (needed_body s q (suc n) h parts.0) (body_shorter s (suc n) inforce)
 
     next : (n : ℕ) (b : Bool) → f (suc n) ≡ b → Good s (A ++ listed f n) → Good s (A ++ (listed f n ++ cond b (suc n ∷ []) []))

@@ -1,7 +1,7 @@
 -- The explanation of a condition in force, and that it has no other.
 -- Assumes nothing.
 use Rattle.std.proofs.Common.{◌≡◌, ℕ, zero, suc, ◌<◌, ◌≤◌, Bool, true, false, ◌&&◌, ◌||◌, eqb, ltb, ◌⊎◌, ◌↔◌, List, [], ◌∷◌, map, Some, None, Option, sym, refl, ap, ◌∙◌, subst, inl, inr, ⊎_elim, arith}
-use Rattle.std.specs.List.{slice_get, AllZip, AllByRecursion as All}
+use Rattle.std.specs.List.{slice_get, AllZip, AllByRecursion}
 use Rattle.std.proofs.ByRecursion.{All-weaker}
 use Rattle.std.proofs.lemmas.Bool.{and_parts, and_from, or_cases, or_left, or_right, both_ways, cases_order, eqb-true, eq-eqb, lt-ltb, ltb-true}
 use Rattle.horn.specs.Sheets.{all_of, any_of, Clause, Sheet, Lawful, gives, clause_at, body_of}
@@ -76,7 +76,7 @@ reaches_needs s w q h (suc k) x p f m r = ⊎_elim (λ (g : eqb x p ≡ true). s
         ih a.1 (shortest_in_force s w a.1 t.b_length t.b_shortest) (through x (chosen s x) a.0 m c e) a.3
 
 -- lists in order
-pub all_mem : (P : ℕ → Type 0) (L : List ℕ) (p : ℕ) → All P L → mem L p ≡ true → P p
+pub all_mem : (P : ℕ → Type 0) (L : List ℕ) (p : ℕ) → AllByRecursion P L → mem L p ≡ true → P p
 all_mem P L p h m = let a = any_at (λ x. eqb x p) L m in subst P (eqb-true a.1 p a.3) (all_nth P L a.0 a.1 a.2 h)
 
 mem_here : (x : ℕ) (L : List ℕ) → mem (x ∷ L) x ≡ true
@@ -112,7 +112,7 @@ precedes_before s w p r h =
     let b = shortest_rank s w r h.r_length h.r_shortest in
     ⊎_elim (λ (k : h.p_length < h.r_length). inl (omega arith)) (λ (k : (h.p_length ≡ h.r_length) × (p < r)). inr (omega arith, k.1)) h.before
 
-sorted_order : (s : Sheet) → Lawful s → (L : List ℕ) → All (λ p. in_force s p ≡ true) L → Sorted s L → InOrder s L
+sorted_order : (s : Sheet) → Lawful s → (L : List ℕ) → AllByRecursion (λ p. in_force s p ≡ true) L → Sorted s L → InOrder s L
 sorted_order s w [] f h = tt
 sorted_order s w (p ∷ L) f h = (all_both (λ r. in_force s r ≡ true) (Before s p) (Precedes s p) (λ r. precedes s w p r f.0) L f.1 h.0, sorted_order s w L f.1 h.1)
 
@@ -120,7 +120,7 @@ order_sorted : (s : Sheet) → Lawful s → (L : List ℕ) → InOrder s L → S
 order_sorted s w [] h = tt
 order_sorted s w (p ∷ L) h = (All-weaker (Precedes s p) (Before s p) (precedes_before s w p) L h.0, order_sorted s w L h.1)
 
-each_chosen : (s : Sheet) → Lawful s → (L : List ℕ) → All (λ p. in_force s p ≡ true) L → AllZip (Chosen s) L (map (chosen s) L)
+each_chosen : (s : Sheet) → Lawful s → (L : List ℕ) → AllByRecursion (λ p. in_force s p ≡ true) L → AllZip (Chosen s) L (map (chosen s) L)
 each_chosen s w [] f = tt
 each_chosen s w (p ∷ L) f = (is_chosen s w p f.0, each_chosen s w L f.1)
 
@@ -150,7 +150,7 @@ explaining s w q f = (record { conditions = L; needs = ordered_needs s w q h; or
     g : Good s L
     g = good_ordered s w q h (rank s q)
 
-    forces : All (λ p. in_force s p ≡ true) L
+    forces : AllByRecursion (λ p. in_force s p ≡ true) L
     forces = all_by_mem (λ p. in_force s p ≡ true) L (λ p m. (reaches_in_force s s.top q p h (ordered_holds s q (rank s q) p m).0).0)
 
     only : (ns : List ℕ) → Explanation s q ns → ns ≡ explanation s q

@@ -2,7 +2,7 @@
 -- Assumes nothing.
 use Rattle.std.proofs.Common.{◌≡◌, ℕ, zero, suc, ◌+◌, ◌-◌, ◌<◌, ◌≤◌, Bool, true, false, cond, not, ◌&&◌, ◌||◌, eqb, ◌⊎◌, List, [], ◌∷◌, ◌++◌, length, get_or, take, Some, None, Option, sym, refl, ap, ◌∙◌, subst, inl, inr, ⊎_elim, arith, take_all, take-suc}
 use lib.Seq.{take-append-le, take-append_seam}
-use Rattle.std.specs.List.{AllByRecursion as All}
+use Rattle.std.specs.List.{AllByRecursion}
 use Rattle.std.proofs.lemmas.List.{get_or_append_left, get_or_push, length_push}
 use Rattle.std.proofs.ByRecursion.{All-weaker}
 use Rattle.std.proofs.lemmas.Bool.{or_cases, both_ways, cases_lt, eqb-true, not_from_true}
@@ -37,12 +37,12 @@ steps_push s ns n h a i l = ⊎_elim early late (cases_lt i (length ns))
 pub allowed_gives : (s : Sheet) (ns : List ℕ) (n : ℕ) (a : Allowed s ns n) (p : ℕ) → step_gives s n p ≡ eqb a.outcome p
 allowed_gives s ns n a p = ap (λ (o : Option Clause). is (outcome_of o) p) a.numbers ∙ ap (λ (o : Option ℕ). is o p) a.no_ban
 
-pub none_lacked : (v : ℕ → Bool) (ps : List ℕ) → All (λ p. v p ≡ true) ps → any_of (λ p. not (v p)) ps ≡ false
+pub none_lacked : (v : ℕ → Bool) (ps : List ℕ) → AllByRecursion (λ p. v p ≡ true) ps → any_of (λ p. not (v p)) ps ≡ false
 none_lacked v [] h = refl
 none_lacked v (p ∷ ps) h = rw h.0 (none_lacked v ps h.1)
 
 -- a set that satisfies a clause and holds its body holds its outcome
-pub fires : (v : ℕ → Bool) (c : Clause) (q : ℕ) → satisfies v c ≡ true → c.outcome ≡ Some q → All (λ p. v p ≡ true) c.body → v q ≡ true
+pub fires : (v : ℕ → Bool) (c : Clause) (q : ℕ) → satisfies v c ≡ true → c.outcome ≡ Some q → AllByRecursion (λ p. v p ≡ true) c.body → v q ≡ true
 fires v c q h e b = ⊎_elim lacks has (or_cases (any_of (λ p. not (v p)) c.body) (holds_outcome v c.outcome) h)
   where
     lacks : any_of (λ p. not (v p)) c.body ≡ true → v q ≡ true
@@ -52,7 +52,7 @@ fires v c q h e b = ⊎_elim lacks has (or_cases (any_of (λ p. not (v p)) c.bod
     has k = sym (ap (holds_outcome v) e) ∙ k
 
 -- the clause with a number keeps what all clauses keep
-pub at_clause : (s : Sheet) (P : Clause → Type 0) (n : ℕ) (c : Clause) → clause_at s n ≡ Some c → All P s.clauses → P c
+pub at_clause : (s : Sheet) (P : Clause → Type 0) (n : ℕ) (c : Clause) → clause_at s n ≡ Some c → AllByRecursion P s.clauses → P c
 at_clause s P zero c e h = absurd (Rattle.horn.proofs.Tests.none_some e)
 at_clause s P (suc n) c e h = all_nth P s.clauses n c e h
 

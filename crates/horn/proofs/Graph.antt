@@ -1,7 +1,7 @@
 -- Pebblings in the graph of a sheet are those of lists of steps.
 -- Assumes nothing.
 use Rattle.std.proofs.Common.{◌≡◌, ℕ, zero, suc, ◌≤◌, max, Bool, true, false, List, [], ◌∷◌, map, Some, None, sym, refl, ap, ◌∙◌, subst, arith}
-use Rattle.std.specs.List.{slice_get, AllByRecursion as All}
+use Rattle.std.specs.List.{slice_get, AllByRecursion}
 use Rattle.std.proofs.ByRecursion.{All-weaker}
 use Rattle.std.proofs.lemmas.Bool.{both_ways}
 use Rattle.horn.specs.Sheets.{all_of, Clause, Sheet, Lawful, clause_at}
@@ -72,7 +72,7 @@ Within s n k = (d : ℕ) × PebbledFromTrue s n d × (d ≤ k)
 abbrev AllWithin : Sheet → List Node → ℕ → Type 0
 AllWithin s ns k = (d : ℕ) × AllPebbled (Edge s) (λ m. m ≡ truth) ns d × (d ≤ k)
 
-all_within : (s : Sheet) (k : ℕ) (ps : List ℕ) → All (λ p. Within s (condition p) k) ps → AllWithin s (map condition ps) k
+all_within : (s : Sheet) (k : ℕ) (ps : List ℕ) → AllByRecursion (λ p. Within s (condition p) k) ps → AllWithin s (map condition ps) k
 all_within s k [] h = (0, none, omega arith)
 all_within s k (p ∷ ps) h = let r = all_within s k ps h.1 in (max h.0.0 r.0, more h.0.1 r.1, omega (arith, h.0.2, r.2))
 
@@ -90,7 +90,7 @@ not_true s i p n (of_ban c j e b o) h = both_ways false refl (ap is_truth h)
 moved : (s : Sheet) (k i : ℕ) (n p : Node) (ns : List Node) → Edge s p i n → Sources (Edge s) i n ns → AllWithin s ns k → Within s n (suc k)
 moved s k i n p ns e h a = (suc a.0, move (not_true s i p n e) i p e ns h a.1, omega (arith, a.2))
 
-fired : (s : Sheet) (k i q : ℕ) (c : Clause) (ps : List ℕ) → c.body ≡ ps → clause_at s i ≡ Some c → c.outcome ≡ Some q → All (λ p. Within s (condition p) k) ps → Within s (condition q) (suc k)
+fired : (s : Sheet) (k i q : ℕ) (c : Clause) (ps : List ℕ) → c.body ≡ ps → clause_at s i ≡ Some c → c.outcome ≡ Some q → AllByRecursion (λ p. Within s (condition p) k) ps → Within s (condition q) (suc k)
 fired s k i q c [] b e o h = moved s k i (condition q) truth (truth ∷ []) (of_fact c e b o) (fact_sources s i q c e b o) (max 0 0, more (start refl) none, omega arith)
 fired s k i q c (p ∷ ps) b e o h = moved s k i (condition q) (condition p) (map condition c.body) (of_rule c 0 e (ap (λ (x : List ℕ). slice_get x 0) b) o) (rule_sources s i q c e full o) (rw b (all_within s k (p ∷ ps) h))
   where
@@ -116,22 +116,22 @@ says_later s d e l truth h = tt
 says_later s d e l falsity h = h
 says_later s d e l (condition q) h = level_mono s d e q l h
 
-body_said : (s : Sheet) (d i : ℕ) (q : Node) (ps : List Node) → Sources (Edge s) i q ps → All (Says s d) ps → (c : Clause) → ((j p : ℕ) → slice_get c.body j ≡ Some p → Edge s (condition p) i q) → All (λ p. level s d p ≡ true) c.body
+body_said : (s : Sheet) (d i : ℕ) (q : Node) (ps : List Node) → Sources (Edge s) i q ps → AllByRecursion (Says s d) ps → (c : Clause) → ((j p : ℕ) → slice_get c.body j ≡ Some p → Edge s (condition p) i q) → AllByRecursion (λ p. level s d p ≡ true) c.body
 body_said s d i q ps h a c edge = all_by_nth (λ p. level s d p ≡ true) c.body (λ j p e. let m = (h (condition p)).1 (edge j p e) in all_nth (Says s d) ps m.0 (condition p) m.1 a)
 
-move_says : (s : Sheet) → Lawful s → (d i : ℕ) (p q : Node) (ps : List Node) → Edge s p i q → Sources (Edge s) i q ps → All (Says s d) ps → Says s (suc d) q
+move_says : (s : Sheet) → Lawful s → (d i : ℕ) (p q : Node) (ps : List Node) → Edge s p i q → Sources (Edge s) i q ps → AllByRecursion (Says s d) ps → Says s (suc d) q
 move_says s w d i p q ps (of_fact {q = x} c e b o) h a = level_at s d x i c e o (ap (all_of (level s d)) b)
 move_says s w d i p q ps (of_rule {q = x} c j e b o) h a = level_at s d x i c e o (all_from (level s d) c.body (body_said s d i (condition x) ps h a c (λ k r n. of_rule c k e n o)))
 move_says s w d i p q ps (of_ban c j e b o) h a = (i, record { clause = c; numbers = e; ban = o; in_force = All-weaker (λ r. level s d r ≡ true) (InForce s) (λ r f. in_force_is s w r (levels_stop s w d r f)) c.body (body_said s d i falsity ps h a c (λ k r n. of_ban c k e n o)) })
 
 -- induction over pebblings: P holds of the nodes in X at length 0, is kept by longer lengths, and by each move
-module _ {V : Type 0} (E : V → ℕ → V → Type 0) (X : V → Type 0) (P : ℕ → V → Type 0) (base : (q : V) → X q → P 0 q) (later : (d e : ℕ) → d ≤ e → (q : V) → P d q → P e q) (step : (d i : ℕ) (p q : V) (ps : List V) → E p i q → Sources E i q ps → All (P d) ps → P (suc d) q) where
+module _ {V : Type 0} (E : V → ℕ → V → Type 0) (X : V → Type 0) (P : ℕ → V → Type 0) (base : (q : V) → X q → P 0 q) (later : (d e : ℕ) → d ≤ e → (q : V) → P d q → P e q) (step : (d i : ℕ) (p q : V) (ps : List V) → E p i q → Sources E i q ps → AllByRecursion (P d) ps → P (suc d) q) where
   mutual
     pub pebbled_ind : (q : V) (d : ℕ) → Pebbled E X q d → P d q
     pebbled_ind q d (start e) = base q e
     pebbled_ind q d (move {d = k} no_start i p e ps h a) = step k i p q ps e h (all_pebbled_ind ps k a)
 
-    pub all_pebbled_ind : (qs : List V) (d : ℕ) → AllPebbled E X qs d → All (P d) qs
+    pub all_pebbled_ind : (qs : List V) (d : ℕ) → AllPebbled E X qs d → AllByRecursion (P d) qs
     all_pebbled_ind qs d none = tt
     all_pebbled_ind qs d (more {p = p} {ps = ps} {d = k} {e = e} a r) = (later k (max k e) (omega arith) p (pebbled_ind p k a), All-weaker (P e) (P (max k e)) (later e (max k e) (omega arith)) ps (all_pebbled_ind ps e r))
 

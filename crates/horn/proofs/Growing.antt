@@ -2,7 +2,7 @@
 -- Assumes nothing.
 use Rattle.std.proofs.Common.{◌≡◌, ℕ, zero, suc, ◌-◌, ◌<◌, ◌≤◌, Bool, true, false, cond, ◌&&◌, ◌||◌, List, [], ◌∷◌, ◌++◌, length, get_or, Some, None, Option, sym, refl, ap, ◌∙◌, arith}
 use mathlib.Core.Path.{fun_ext}
-use Rattle.std.specs.List.{slice_get, AllByRecursion as All}
+use Rattle.std.specs.List.{slice_get, AllByRecursion}
 use Rattle.std.proofs.ByRecursion.{All-weaker}
 use Rattle.std.proofs.lemmas.Bool.{both_ways, or_from}
 use Rattle.horn.specs.Sheets.{all_of, any_of, Clause, Sheet, gives, is, clause_at, outcome_of, body_of}
@@ -65,6 +65,6 @@ bans_add_nothing s cs h (suc k) q = any_append (λ c. gives c q && all_of (level
     or_false true = refl
     or_false false = refl
 
-    none : (ds : List Clause) → All (λ c. c.outcome ≡ None) ds → any_of (λ c. gives c q && all_of (level (added s cs) k) c.body) ds ≡ false
+    none : (ds : List Clause) → AllByRecursion (λ c. c.outcome ≡ None) ds → any_of (λ c. gives c q && all_of (level (added s cs) k) c.body) ds ≡ false
     none [] a = refl
     none (d ∷ ds) a = or_from _ _ (ap (λ (o : Option ℕ). is o q && all_of (level (added s cs) k) d.body) a.0) (none ds a.1)

@@ -2,7 +2,7 @@
 -- Assumes nothing.
 use Rattle.std.proofs.Common.{◌≡◌, ℕ, zero, suc, ◌+◌, ◌-◌, ◌<◌, ◌≤◌, max, Bool, true, false, cond, not, ◌&&◌, ◌||◌, eqb, ◌⊎◌, List, [], ◌∷◌, ◌++◌, Some, None, Option, sym, refl, ap, ◌∙◌, subst, inl, inr, ⊎_elim, arith}
 use mathlib.Core.Path.{fun_ext}
-use Rattle.std.specs.List.{slice_get, AllByRecursion as All}
+use Rattle.std.specs.List.{slice_get, AllByRecursion}
 use Rattle.std.proofs.ByRecursion.{All-weaker}
 use Rattle.std.proofs.lemmas.Bool.{and_parts, and_from, or_cases, both_ways, cases_lt, cases_Bool, or_from, eqb-true, eq-eqb, cond-true, cond-false}
 use Rattle.horn.specs.Sheets.{all_of, any_of, Clause, Sheet, Lawful, Condition, gives, is, clause_at, outcome_of, body_of}
@@ -124,11 +124,11 @@ pub level_at : (s : Sheet) (k q n : ℕ) (c : Clause) → clause_at s n ≡ Some
 level_at s k q zero c e g b = absurd (none_some e)
 level_at s k q (suc n) c e g b = level_more s k q n c e (outcome_gives c q g) b
 
-pub longest_at : (t : ℕ → ℕ) (ps : List ℕ) → All (λ p. t p ≤ longest t ps) ps
+pub longest_at : (t : ℕ → ℕ) (ps : List ℕ) → AllByRecursion (λ p. t p ≤ longest t ps) ps
 longest_at t [] = tt
 longest_at t (p ∷ ps) = (omega arith, All-weaker (λ x. t x ≤ longest t ps) (λ x. t x ≤ max (t p) (longest t ps)) (λ x h. omega arith) ps (longest_at t ps))
 
-pub all_both : (P Q R : ℕ → Type 0) → ((p : ℕ) → P p → Q p → R p) → (ps : List ℕ) → All P ps → All Q ps → All R ps
+pub all_both : (P Q R : ℕ → Type 0) → ((p : ℕ) → P p → Q p → R p) → (ps : List ℕ) → AllByRecursion P ps → AllByRecursion Q ps → AllByRecursion R ps
 all_both P Q R h [] a b = tt
 all_both P Q R h (p ∷ ps) a b = (h p a.0 b.0, all_both P Q R h ps a.1 b.1)
 

@@ -1,6 +1,6 @@
 -- The theorems about choices and pebblings.
 use Rattle.std.specs.Prelude.{◌≡◌, ℕ, ◌≤◌, Bool, true, ◌↔◌, List, ◌++◌, None}
-use Rattle.std.specs.List.{AllByRecursion as All}
+use Rattle.std.specs.List.{AllByRecursion}
 use Rattle.horn.specs.Sheets.{Sheet, Clause, Choice, Lawful, Keeps, Satisfies}
 use Rattle.horn.specs.Pebblings.{InForce, Broken, Pebbling, Shortest, lengths}
 use Rattle.horn.specs.Levels.{level, in_force, rank, explanation}
@@ -59,4 +59,4 @@ Growing = (s : Sheet) (cs : List Clause) (q : ℕ) (ns : List ℕ) → Pebbling 
 
 -- Bans that are added put nothing in force.
 abbrev pub BansAddNothing : Type 0
-BansAddNothing = (s : Sheet) (cs : List Clause) → All (λ c. c.outcome ≡ None) cs → (k q : ℕ) → level (added s cs) k q ≡ level s k q
+BansAddNothing = (s : Sheet) (cs : List Clause) → AllByRecursion (λ c. c.outcome ≡ None) cs → (k q : ℕ) → level (added s cs) k q ≡ level s k q

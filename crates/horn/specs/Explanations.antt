@@ -1,7 +1,7 @@
 -- Explanations: which clauses show that a condition is in force, and in which order.
 -- Assumes nothing.
 use Rattle.std.specs.Prelude.{◌≡◌, ℕ, ◌<◌, true, ◌⊎◌, ◌↔◌, List, [], ◌∷◌, Some, nat_eq}
-use Rattle.std.specs.List.{slice_get, AllZip, AllByRecursion as All}
+use Rattle.std.specs.List.{slice_get, AllZip, AllByRecursion}
 use Rattle.horn.specs.Sheets.{Sheet, Clause, clause_at, any_of, Lawful}
 use Rattle.horn.specs.Pebblings.{InForce, Shortest}
 use Rattle.horn.specs.Levels.{explanation}
@@ -17,7 +17,7 @@ pub record Shorter (s : Sheet) (b p : ℕ) : Type 0 where
 -- a clause of p whose conditions all have shorter shortest pebblings than p
 pub record Supports (s : Sheet) (p : ℕ) (c : Clause) : Type 0 where
   pub gives : c.outcome ≡ Some p
-  pub shorter : All (λ b. Shorter s b p) c.body
+  pub shorter : AllByRecursion (λ b. Shorter s b p) c.body
 
 -- The chosen clause of p, by its number: the lowest such clause.
 pub record Chosen (s : Sheet) (p n : ℕ) : Type 0 where
@@ -42,7 +42,7 @@ pub record Precedes (s : Sheet) (p r : ℕ) : Type 0 where
 -- each condition precedes all that follow it
 abbrev pub InOrder : Sheet → List ℕ → Type 0
 InOrder s [] = Unit {0}
-InOrder s (p ∷ ps) = All (Precedes s p) ps × InOrder s ps
+InOrder s (p ∷ ps) = AllByRecursion (Precedes s p) ps × InOrder s ps
 
 -- The steps are the chosen clauses of the conditions that q needs, in order.
 pub record Explanation (s : Sheet) (q : ℕ) (ns : List ℕ) : Type 0 where

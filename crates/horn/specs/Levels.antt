@@ -1,7 +1,7 @@
 -- The conditions in force, computed: by levels, with the shortest pebblings' lengths and the clauses that explain a condition.
 -- Assumes nothing.
 use Rattle.std.specs.Prelude.{◌≡◌, ℕ, zero, suc, ◌<◌, ◌≤◌, Bool, true, false, cond, ◌&&◌, ◌||◌, ◌⊎◌, List, [], ◌∷◌, ◌++◌, map, Some, None, Option, ◌==◌, nat_lt}
-use Rattle.std.specs.List.{AllByRecursion as All}
+use Rattle.std.specs.List.{AllByRecursion}
 use Rattle.horn.specs.Sheets.{Sheet, Clause, all_of, any_of, gives, clause_at, body_of}
 
 -- The level k holds the conditions with a pebbling of length at most k.
@@ -75,4 +75,4 @@ Before s p r = (rank s p < rank s r) ⊎ ((rank s p ≡ rank s r) × (p < r))
 -- each stands before all that follow it
 abbrev pub Sorted : Sheet → List ℕ → Type 0
 Sorted s [] = Unit {0}
-Sorted s (p ∷ ps) = All (Before s p) ps × Sorted s ps
+Sorted s (p ∷ ps) = AllByRecursion (Before s p) ps × Sorted s ps

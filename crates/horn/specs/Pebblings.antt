@@ -1,7 +1,7 @@
 -- Pebblings: derivations of a condition, one clause a step, and their lengths.
 -- Assumes nothing.
 use Rattle.std.specs.Prelude.{◌≡◌, ℕ, zero, suc, ◌+◌, ◌-◌, ◌<◌, ◌≤◌, max, Bool, true, false, cond, List, [], ◌∷◌, length, take, Some, None, Option, slice_index}
-use Rattle.std.specs.List.{AllByRecursion as All}
+use Rattle.std.specs.List.{AllByRecursion}
 use Rattle.horn.specs.Sheets.{any_of, Clause, Sheet, is, clause_at, outcome_of, body_of}
 
 -- the step n, a clause number, has the outcome p
@@ -20,7 +20,7 @@ pub record Allowed (s : Sheet) (before : List ℕ) (n : ℕ) : Type 0 where
   pub numbers : clause_at s n ≡ Some clause
   pub no_ban : clause.outcome ≡ Some outcome
   pub fresh : given s before outcome ≡ false
-  pub ready : All (λ p. given s before p ≡ true) clause.body
+  pub ready : AllByRecursion (λ p. given s before p ≡ true) clause.body
 
 -- each step is allowed after those before it
 abbrev pub Steps : Sheet → List ℕ → Type 0
@@ -58,7 +58,7 @@ pub record Broken (s : Sheet) (n : ℕ) : Type 0 where
   pub clause : Clause
   pub numbers : clause_at s n ≡ Some clause
   pub ban : clause.outcome ≡ None
-  pub in_force : All (InForce s) clause.body
+  pub in_force : AllByRecursion (InForce s) clause.body
 
 -- d is the length of the shortest pebblings of q
 pub record Shortest (s : Sheet) (q d : ℕ) : Type 0 where

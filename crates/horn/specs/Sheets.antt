@@ -1,7 +1,7 @@
 -- Sheets of Horn clauses, and the choices that satisfy them.
 -- A condition (a propositional letter) is a number from 1 to the sheet's `top`. Assumes nothing.
 use Rattle.std.specs.Prelude.{◌≡◌, ℕ, zero, suc, ◌+◌, ◌<◌, ◌≤◌, max, Bool, true, false, not, ◌&&◌, ◌||◌, ◌⊎◌, List, [], ◌∷◌, length, Some, None, Option, ◌==◌, ◌≢◌, nat_eq}
-use Rattle.std.specs.List.{slice_get, AllByRecursion as All}
+use Rattle.std.specs.List.{slice_get, AllByRecursion}
 
 -- the test passes at each element; at some element
 abbrev pub all_of : {X : Type 0} → (X → Bool) → List X → Bool
@@ -42,13 +42,13 @@ Distinct (p ∷ ps) = (any_of (nat_eq p) ps ≡ false) × Distinct ps
 -- A clause as it may stand on a sheet: its conditions are the sheet's, none stands twice in the body,
 -- and it is not without both body and outcome.
 pub record LawfulClause (s : Sheet) (c : Clause) : Type 0 where
-  pub conditions : All (Condition s) c.body
+  pub conditions : AllByRecursion (Condition s) c.body
   pub outcomes : (q : ℕ) → c.outcome ≡ Some q → Condition s q
   pub different : Distinct c.body
   pub something : c.body ≡ [] → c.outcome ≢ None
 
 abbrev pub Lawful : Sheet → Type 0
-Lawful s = All (LawfulClause s) s.clauses
+Lawful s = AllByRecursion (LawfulClause s) s.clauses
 
 -- A choice is a set of the sheet's conditions.
 pub record Choice (s : Sheet) : Type 0 where
@@ -66,11 +66,11 @@ satisfies v c = any_of (λ p. not (v p)) c.body || holds_outcome v c.outcome
 
 -- A choice satisfies a sheet if it satisfies each clause.
 abbrev pub Satisfies : (s : Sheet) → Choice s → Type 0
-Satisfies s v = All (λ c. satisfies v.holds c ≡ true) s.clauses
+Satisfies s v = AllByRecursion (λ c. satisfies v.holds c ≡ true) s.clauses
 
 -- the set satisfies all facts and rules
 abbrev pub Keeps : Sheet → (ℕ → Bool) → Type 0
-Keeps s v = All (λ c. (q : ℕ) → c.outcome ≡ Some q → satisfies v c ≡ true) s.clauses
+Keeps s v = AllByRecursion (λ c. (q : ℕ) → c.outcome ≡ Some q → satisfies v c ≡ true) s.clauses
 
 -- the clause with this number, counted from 1
 abbrev pub clause_at : Sheet → ℕ → Option Clause

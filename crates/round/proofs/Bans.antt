@@ -1,6 +1,6 @@
 -- A scan of the clauses by a table of ranks: the lowest broken ban, and the places whose condition is in force.
 use Rattle.std.proofs.Common.{◌≡◌, ℕ, zero, suc, ◌+◌, ◌-◌, ◌<◌, ◌≤◌, Bool, true, false, cond, not, ◌&&◌, List, [], ◌∷◌, ◌++◌, map, length, take, drop, Some, None, sym, refl, ap, ◌∙◌, arith}
-use Rattle.std.specs.List.{range_with_len, AllByRecursion as All}
+use Rattle.std.specs.List.{range_with_len, AllByRecursion}
 use Rattle.std.proofs.ByRecursion.{All-weaker}
 use Rattle.std.proofs.lemmas.List.{take-append-drop, drop-drop, drop_all, take_more}
 use Rattle.std.proofs.lemmas.Bool.{cases_eq, cases_Bool, and_parts, and_from, or_from, both_ways, cond-true, cond-false}
@@ -19,7 +19,7 @@ use Rattle.round.proofs.Sets.{split}
 
 -- two tests that agree on the conditions
 module _ (s : Sheet) (f g : ℕ → Bool) (same : (p : ℕ) → Condition s p → f p ≡ g p) where
-  pub all_agree : (ps : List ℕ) → All (Condition s) ps → all_of f ps ≡ all_of g ps
+  pub all_agree : (ps : List ℕ) → AllByRecursion (Condition s) ps → all_of f ps ≡ all_of g ps
   all_agree [] h = refl
   all_agree (p ∷ ps) h =
       let e = same p h.0 in
@@ -28,13 +28,13 @@ module _ (s : Sheet) (f g : ℕ → Bool) (same : (p : ℕ) → Condition s p �
   breaks_agree : (c : Clause) → LawfulClause s c → breaks f c ≡ breaks g c
   breaks_agree c w = ap (λ (b : Bool). no_outcome c.outcome && b) (all_agree c.body w.conditions)
 
-  tally_agree : (ps : List ℕ) → All (Condition s) ps → tally f ps ≡ tally g ps
+  tally_agree : (ps : List ℕ) → AllByRecursion (Condition s) ps → tally f ps ≡ tally g ps
   tally_agree [] h = refl
   tally_agree (p ∷ ps) h =
       let e = same p h.0 in
       let d = tally_agree ps h.1 in cc
 
-  pub places_agree : (cs : List Clause) → All (LawfulClause s) cs → places f cs ≡ places g cs
+  pub places_agree : (cs : List Clause) → AllByRecursion (LawfulClause s) cs → places f cs ≡ places g cs
   places_agree [] h = refl
   places_agree (c ∷ cs) h =
       let e = tally_agree c.body h.0.conditions in

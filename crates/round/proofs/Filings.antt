@@ -1,6 +1,6 @@
 -- The sheet of a round with filings behind its clauses: what is lawful, and what some choice satisfies.
 use Rattle.std.proofs.Common.{◌≡◌, ℕ, zero, suc, ◌<◌, ◌≤◌, Bool, true, false, not, ◌||◌, List, [], ◌∷◌, ◌++◌, map, length, take, sym, refl, ap, ◌∙◌, subst, inl, inr, arith}
-use Rattle.std.specs.List.{AllByRecursion as All}
+use Rattle.std.specs.List.{AllByRecursion}
 use Rattle.std.proofs.lemmas.List.{append_assoc, append-nil, map_push}
 use Rattle.std.proofs.ByRecursion.{All-push, All-weaker}
 use Rattle.std.proofs.lemmas.Bool.{both_ways}
@@ -48,7 +48,7 @@ pub unfiled : (s : Sheet) → with_filings s [] ≡ s
 unfiled s = ap {B = Sheet} (λ (cs : List Clause). record { top = s.top; clauses = cs }) (append-nil s.clauses)
 
 -- lawful clauses are lawful on every sheet with the same conditions
-lawful_again : (s : Sheet) (cs ds : List Clause) → All (LawfulClause (record { top = s.top; clauses = ds })) cs → All (LawfulClause s) cs
+lawful_again : (s : Sheet) (cs ds : List Clause) → AllByRecursion (LawfulClause (record { top = s.top; clauses = ds })) cs → AllByRecursion (LawfulClause s) cs
 lawful_again s cs ds = All-weaker (LawfulClause (record { top = s.top; clauses = ds })) (LawfulClause s) (λ c l. record { conditions = l.conditions; outcomes = l.outcomes; different = l.different; something = l.something }) cs
 
 -- the clause of a filing is lawful where it names a condition
@@ -65,7 +65,7 @@ lawful_push s fs f h w = subst Lawful (sym (pushed s fs f)) (All-push (LawfulCla
     S : Sheet
     S = added (with_filings s fs) (clause_of f ∷ [])
 
-all_kept : {X Y : Type 0} (P : X → Type 0) (f : Y → X) (xs : List X) (k : ℕ) (ys : List Y) → All P (xs ++ map f ys) → All P (xs ++ map f (take k ys))
+all_kept : {X Y : Type 0} (P : X → Type 0) (f : Y → X) (xs : List X) (k : ℕ) (ys : List Y) → AllByRecursion P (xs ++ map f ys) → AllByRecursion P (xs ++ map f (take k ys))
 all_kept P f (x ∷ xs) k ys h = (h.0, all_kept P f xs k ys h.1)
 all_kept P f [] zero ys h = tt
 all_kept P f [] (suc k) [] h = tt

@@ -2,7 +2,7 @@
 use Rattle.std.proofs.Common.{◌≡◌, ℕ, zero, suc, ◌+◌, ◌<◌, ◌≤◌, Bool, true, false, cond, ◌&&◌, eqb, ltb, leb, List, [], ◌∷◌, ◌++◌, map, length, take, drop, set, sym, refl, ap, ◌∙◌, ap₂, inl, inr, ⊎_elim, add-one, arith, length-append, length-drop, drop-cons}
 use lib.ListN.{length-map}
 use lib.Seq.{set_at}
-use Rattle.std.specs.List.{AllByRecursion as All}
+use Rattle.std.specs.List.{AllByRecursion}
 use Rattle.std.proofs.lemmas.List.{append_assoc, append-nil, length_push, map_push, take_at}
 use Rattle.std.proofs.lemmas.Bool.{cases_Bool, cases_lt, both_ways, and_left, eq-eqb, ne_eqb, le-leb, cond-true, cond-false}
 use Rattle.std.proofs.lemmas.Bool.Decides.{nat_tests}
@@ -118,7 +118,7 @@ listed_same : (f g : ℕ → Bool) (n : ℕ) → ((p : ℕ) → f p ≡ g p) →
 listed_same f g zero same = refl
 listed_same f g (suc n) same = ap₂ (λ (l : List ℕ) (b : Bool). l ++ cond b (suc n ∷ []) []) (listed_same f g n same) (same (suc n))
 
-map_same : (f g : ℕ → ℕ) (ps : List ℕ) → All (λ p. f p ≡ g p) ps → map f ps ≡ map g ps
+map_same : (f g : ℕ → ℕ) (ps : List ℕ) → AllByRecursion (λ p. f p ≡ g p) ps → map f ps ≡ map g ps
 map_same f g [] h = refl
 map_same f g (p ∷ ps) h = ap₂ (λ (x : ℕ) (l : List ℕ). x ∷ l) h.0 (map_same f g ps h.1)
 

@@ -1,6 +1,6 @@
 -- The marks of what a condition needs.
 use Rattle.std.proofs.Common.{◌≡◌, ℕ, zero, suc, ◌+◌, ◌-◌, ◌<◌, ◌≤◌, Bool, true, false, cond, ◌||◌, eqb, ◌⊎◌, List, [], ◌∷◌, length, take, set, sym, refl, ap, ◌∙◌, subst, inl, inr, arith}
-use Rattle.std.specs.List.{AllByRecursion as All}
+use Rattle.std.specs.List.{AllByRecursion}
 use Rattle.std.proofs.ByRecursion.{All-weaker}
 use Rattle.std.proofs.lemmas.List.{take_more}
 use Rattle.std.proofs.lemmas.Bool.{cases_eq, cases_lt, cases_Bool, or_cases, or_left, or_right, both_ways, eqb-true, eq-eqb, ne_eqb, cond-true, cond-false}
@@ -81,7 +81,7 @@ module _ (s : Sheet) (w : Lawful s) (q : ℕ) (h : in_force s q ≡ true) where
       begun = grown q m.begun;
       sound = λ p l. split (cases_Bool (mem body p)) (λ i. (need p i, value p i)) (λ i. let v = m.sound p (omega (arith, kept p i)) in (v.0, kept p i ∙ v.1));
       closed = λ p l past. split (cases_eq p x)
-          (λ e. subst (λ (y : ℕ). All (λ b. 0 < at marks' b) (chosen_body s y)) (sym e) (all_by_mem (λ b. 0 < at marks' b) body marked))
+          (λ e. subst (λ (y : ℕ). AllByRecursion (λ b. 0 < at marks' b) (chosen_body s y)) (sym e) (all_by_mem (λ b. 0 < at marks' b) body marked))
           (λ e. split (cases_Bool (mem body p))
           (λ i. absurd (split past (λ a. omega (arith, lower p i, of_x)) (λ a. omega (arith, lower p i, of_x, a.0))))
           (λ i. All-weaker (λ b. 0 < at marks b) (λ b. 0 < at marks' b) grown (chosen_body s p)

@@ -1,6 +1,6 @@
 -- The calls and replies of the code, in the terms of Runs.
 use Rattle.std.specs.Prelude.{◌≡◌, ℕ, Bool, cond, List, [], ◌∷◌, map, take, Ok, Err, vec_items, Result, Vec}
-use Rattle.std.specs.List.{AllByRecursion as All}
+use Rattle.std.specs.List.{AllByRecursion}
 use Rattle.std.specs.declared.alloc.AllocError.{AllocError}
 use Rattle.std.specs.declared.alloc.Global.{Global}
 use Rattle.round.specs.Answers.{Answer, ok, refusal}
@@ -68,7 +68,7 @@ pub record Leads (before : Position) (es : List SpecEvent) (next : Position) : T
 pub record Replied (before : Position) (cs : List Call) (es : List Event) (next : Position) : Type 0 where
   pub leads : Leads before (map event_of es) next
   pub each : calls (map event_of es) ≡ map call_of cs
-  pub suits : All (λ e. Suits e.call e.reply) es
+  pub suits : AllByRecursion (λ e. Suits e.call e.reply) es
 
 -- A list of calls. Where memory is wanting, the first k of them were made, and answered by some events.
 abbrev pub Ran : Position → List Call → Result (Vec Event Global) AllocError → Position → Type 0

@@ -1,6 +1,6 @@
 -- The tables from which an explanation is written.
 use Rattle.std.specs.Prelude.{◌≡◌, ℕ, zero, suc, ◌+◌, ◌<◌, ◌≤◌, Bool, true, false, cond, ◌&&◌, ◌⊎◌, List, [], ◌++◌, length, nat_eq, nat_lt}
-use Rattle.std.specs.List.{AllByRecursion as All}
+use Rattle.std.specs.List.{AllByRecursion}
 use Rattle.horn.specs.Sheets.{Sheet, Clause, Lawful, all_of, gives}
 use Rattle.horn.specs.Levels.{in_force, rank, chosen, chosen_body, needed, listed}
 use Rattle.round.specs.Rows.{at, Rows, clause_in, sheet_in, LawfulRows}
@@ -37,7 +37,7 @@ pub record RankedRows (top : ℕ) (t : Rows) (table : List ℕ) : Type 0 where
 pub record Marking (s : Sheet) (q d n : ℕ) (marks : List ℕ) : Type 0 where
   pub begun : 0 < at marks q
   pub sound : (p : ℕ) → 0 < at marks p → (needed s q p ≡ true) × (at marks p ≡ rank s p)
-  pub closed : (p : ℕ) → 0 < at marks p → (d < rank s p) ⊎ ((rank s p ≡ d) × (p ≤ n)) → All (λ b. 0 < at marks b) (chosen_body s p)
+  pub closed : (p : ℕ) → 0 < at marks p → (d < rank s p) ⊎ ((rank s p ≡ d) × (p ≤ n)) → AllByRecursion (λ b. 0 < at marks b) (chosen_body s p)
 
 -- The marks of what q needs: the rank of each condition that it needs, 0 for any other number.
 abbrev pub Marks : Sheet → ℕ → List ℕ → Type 0

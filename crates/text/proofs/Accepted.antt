@@ -1,6 +1,6 @@
 -- The good texts are those of the grammar whose clauses keep the limits.
 use Rattle.std.proofs.Common.{◌≡◌, ℕ, zero, suc, ◌+◌, ◌-◌, ◌<◌, ◌≤◌, Bool, true, false, cond, eqb, List, [], ◌∷◌, length, get_or, drop, count_by, sym, refl, ap, ◌∙◌, subst, inl, inr, ⊎_elim, add-one, arith, eq-eqb, eqb-true}
-use Rattle.std.specs.List.{AllByRecursion as All}
+use Rattle.std.specs.List.{AllByRecursion}
 use Rattle.std.proofs.ByRecursion.{All-weaker}
 use Rattle.std.proofs.lemmas.List.{get_or_past, take_all}
 use Rattle.std.proofs.lemmas.List.Sums.{sum_by-take-le}
@@ -159,7 +159,7 @@ module _ (s : List ℕ) (m k n : ℕ) (g : Good s m k n) where
   pub good_keeps : KeepsLimits (clauses g.tree)
   good_keeps = record {
     low = omega (arith, low s m k n g, g.k_is);
-    different = All-weaker (LawfulClause (sheet_in k s)) (λ c. Distinct c.body) (λ c l. l.different) (clauses g.tree) (subst (All (LawfulClause (sheet_in k s))) (meaning s m k n g) (lawful s m k n g));
+    different = All-weaker (LawfulClause (sheet_in k s)) (λ c. Distinct c.body) (λ c l. l.different) (clauses g.tree) (subst (AllByRecursion (LawfulClause (sheet_in k s))) (meaning s m k n g) (lawful s m k n g));
     few_clauses = few_clauses;
     few_literals = few_literals;
   }

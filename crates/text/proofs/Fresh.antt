@@ -1,6 +1,6 @@
 -- A text of the grammar whose bodies have no condition twice has no fault 4.
 use Rattle.std.proofs.Common.{◌≡◌, ℕ, ◌+◌, ◌≤◌, Bool, true, false, cond, not, ◌&&◌, eqb, List, [], ◌∷◌, length, get_or, drop, sym, refl, ap, ◌∙◌, subst, ⊎_elim, arith, length-drop, eq-eqb, ne_eqb, eqb-true}
-use Rattle.std.specs.List.{AllByRecursion as All}
+use Rattle.std.specs.List.{AllByRecursion}
 use Rattle.std.proofs.lemmas.List.{drop-drop, get_or_past}
 use Rattle.std.proofs.lemmas.Bool.{cases_Bool, cases_eq, and_parts, and_from, or_parts, or_from, or_left, or_right, not-true, not_from_false, both_ways}
 use Rattle.horn.specs.Sheets.{Distinct, any_of}
@@ -27,7 +27,7 @@ passes seen b s d = let g = signs b d in rw (g.0, g.2, g.3)
 past : (seen : List ℕ) (n : Number) (s : List ℕ) → fresh seen false (numeral n s) ≡ fresh seen false s
 past seen n s = past_number (fresh seen false) (passes seen) n s
 
-one_more : (p : ℕ) (seen qs : List ℕ) → any_of (eqb p) qs ≡ false → All (λ q. any_of (eqb q) seen ≡ false) qs → All (λ q. any_of (eqb q) (p ∷ seen) ≡ false) qs
+one_more : (p : ℕ) (seen qs : List ℕ) → any_of (eqb p) qs ≡ false → AllByRecursion (λ q. any_of (eqb q) seen ≡ false) qs → AllByRecursion (λ q. any_of (eqb q) (p ∷ seen) ≡ false) qs
 one_more p seen [] d h = tt
 one_more p seen (q ∷ qs) d h =
     let o = or_parts (eqb p q) (any_of (eqb p) qs) d in
@@ -38,7 +38,7 @@ one_more p seen (q ∷ qs) d h =
 abbrev Free : List ℕ → Type 0
 Free s = (seen : List ℕ) → fresh seen false s ≡ true
 
-negs : (seen : List ℕ) (ns : NegLits) (x : ℕ) (s : List ℕ) → digit x ≡ false → Distinct (conditions ns) → All (λ q. any_of (eqb q) seen ≡ false) (conditions ns) → Free (x ∷ s) → fresh seen false (neg_lits ns (x ∷ s)) ≡ true
+negs : (seen : List ℕ) (ns : NegLits) (x : ℕ) (s : List ℕ) → digit x ≡ false → Distinct (conditions ns) → AllByRecursion (λ q. any_of (eqb q) seen ≡ false) (conditions ns) → Free (x ∷ s) → fresh seen false (neg_lits ns (x ∷ s)) ≡ true
 negs seen (one n) x s other d h f =
     rw (lead_number n x s other) (and_from _ _ (not_from_false (any_of (eqb (value n)) seen) h.0) (past (value n ∷ seen) n (x ∷ s) ∙ f (value n ∷ seen)))
 negs seen (more n ns) x s other d h f =
@@ -46,7 +46,7 @@ negs seen (more n ns) x s other d h f =
     (and_from _ _ (not_from_false (any_of (eqb (value n)) seen) h.0)
     (past (value n ∷ seen) n (124 ∷ neg_lits ns (x ∷ s)) ∙ negs (value n ∷ seen) ns x s other d.1 (one_more (value n) seen (conditions ns) d.0 h.1) f))
 
-none_seen : (qs : List ℕ) → All (λ q. any_of (eqb q) [] ≡ false) qs
+none_seen : (qs : List ℕ) → AllByRecursion (λ q. any_of (eqb q) [] ≡ false) qs
 none_seen [] = tt
 none_seen (q ∷ qs) = (refl, none_seen qs)
 
@@ -55,7 +55,7 @@ basics (fact n) s d f seen = past [] n (41 ∷ s) ∙ f []
 basics (rule ns n) s d f seen = negs [] ns 124 (80 ∷ numeral n (41 ∷ s)) refl d (none_seen (conditions ns)) (λ z. past z n (41 ∷ s) ∙ f z)
 basics (ban ns) s d f seen = negs [] ns 41 s refl d (none_seen (conditions ns)) f
 
-texts : (t : Text) → All (λ c. Distinct c.body) (clauses t) → Free (text t [])
+texts : (t : Text) → AllByRecursion (λ c. Distinct c.body) (clauses t) → Free (text t [])
 texts (last c) d = basics c [] d.0 (λ seen. refl)
 texts (join c t) d = basics c (38 ∷ text t []) d.0 (texts t d.1)
 
@@ -143,5 +143,5 @@ module _ (s : List ℕ) where
   start : Knows 0 [] false
   start = record { bodies = λ n j h. absurd (omega (arith, h.before)); signed = λ h. absurd (omega (arith, h.0)) }
 
-pub no_repeats : (t : Text) (s : List ℕ) → text t [] ≡ s → All (λ c. Distinct c.body) (clauses t) → (i : ℕ) → Repeats s i → ⊥
+pub no_repeats : (t : Text) (s : List ℕ) → text t [] ≡ s → AllByRecursion (λ c. Distinct c.body) (clauses t) → (i : ℕ) → Repeats s i → ⊥
 no_repeats t s e d i r = clear s s 0 [] false refl (start s) (ap (fresh [] false) (sym e) ∙ texts t d []) i (omega arith) r

@@ -1,7 +1,7 @@
 -- The clauses of a good text are those of a lawful sheet.
 use Rattle.std.proofs.Common.{◌≡◌, ℕ, zero, suc, ◌+◌, ◌-◌, ◌*◌, ◌<◌, ◌≤◌, max, true, false, eqb, List, [], ◌∷◌, ◌++◌, length, get_or, drop, Some, None, sym, refl, ap, ◌∙◌, subst, ⊎_elim, add-one, arith, ne_eqb, eqb-true}
 use mathlib.Core.Bool.{false≢true}
-use Rattle.std.specs.List.{AllByRecursion as All}
+use Rattle.std.specs.List.{AllByRecursion}
 use Rattle.std.proofs.lemmas.List.{append_assoc, get_or-append-add, get_or_append_left, get_or-append_right, drop_at, drop-drop, length-append}
 use Rattle.std.proofs.lemmas.Bool.{cases_lt, cases_eq, cases_Bool}
 use Rattle.horn.specs.Sheets.{Sheet, Condition, Distinct, Lawful, LawfulClause, any_of, greatest, top_of, outcome_number}
@@ -86,7 +86,7 @@ some_negs (more n ns) e = let z : ◌≡◌ {A = ℕ} 0 1 = cc in omega arith
 
 -- a clause with conditions up to the greatest of a sheet, all different, is lawful there
 module _ (x : Sheet) where
-  over_negs : (ns : NegLits) → greatest (conditions ns) ≤ x.top → All (Condition x) (conditions ns)
+  over_negs : (ns : NegLits) → greatest (conditions ns) ≤ x.top → AllByRecursion (Condition x) (conditions ns)
   over_negs (one n) h = ((positive n, omega arith), tt)
   over_negs (more n ns) h = ((positive n, omega arith), over_negs ns (omega arith))
 
@@ -179,7 +179,7 @@ module _ (s : List ℕ) where
     distinct_basic pre (rule ns n) rest e = distinct (pre ++ (40 ∷ [])) ns 124 (80 ∷ numeral n (41 ∷ rest)) refl (e ∙ sym (append_assoc pre (40 ∷ []) (neg_lits ns (124 ∷ 80 ∷ numeral n (41 ∷ rest)))))
     distinct_basic pre (ban ns) rest e = distinct (pre ++ (40 ∷ [])) ns 41 rest refl (e ∙ sym (append_assoc pre (40 ∷ []) (neg_lits ns (41 ∷ rest))))
 
-    each : (x : Sheet) (pre : List ℕ) (t : Text) → s ≡ pre ++ text t [] → top_of (clauses t) ≤ x.top → All (LawfulClause x) (clauses t)
+    each : (x : Sheet) (pre : List ℕ) (t : Text) → s ≡ pre ++ text t [] → top_of (clauses t) ≤ x.top → AllByRecursion (LawfulClause x) (clauses t)
     each x pre (last c) e h = (lawful_basic x c (omega arith) (distinct_basic pre c [] e), tt)
     each x pre (join c t) e h =
         let a = front_inside c (41 ∷ 38 ∷ text t []) in
@@ -213,4 +213,4 @@ module _ (s : List ℕ) (m k n : ℕ) (g : Good s m k n) where
       omega (arith, e, top_low s (small s m k n g) s 0 refl, g.k_is)
 
   pub lawful : Lawful (sheet_in k s)
-  lawful = subst (All (LawfulClause (sheet_in k s))) (sym (meaning s m k n g)) (each s (repeats_none s m k n g) (sheet_in k s) [] g.tree (sym g.spells) (omega (arith, g.k_is)))
+  lawful = subst (AllByRecursion (LawfulClause (sheet_in k s))) (sym (meaning s m k n g)) (each s (repeats_none s m k n g) (sheet_in k s) [] g.tree (sym g.spells) (omega (arith, g.k_is)))

@@ -1,6 +1,6 @@
 -- The good texts, by their clauses and without a word of faults.
 use Rattle.std.specs.Prelude.{◌≡◌, ℕ, ◌≤◌, List, length, Ok}
-use Rattle.std.specs.List.{AllByRecursion as All}
+use Rattle.std.specs.List.{AllByRecursion}
 use Rattle.horn.specs.Sheets.{Clause, Distinct, top_of, literals}
 use Rattle.text.specs.declared.verdict.Counts.{Counts}
 use Rattle.text.specs.Grammar.{Text, Spells, clauses}
@@ -9,7 +9,7 @@ use Rattle.text.specs.Verdicts.{Judged}
 -- Clauses within the limits: no condition above 1,000, none twice in a body, at most 2,000 clauses and 8,000 literals.
 pub record KeepsLimits (cs : List Clause) : Type 0 where
   pub low : top_of cs ≤ 1000
-  pub different : All (λ c. Distinct c.body) cs
+  pub different : AllByRecursion (λ c. Distinct c.body) cs
   pub few_clauses : length cs ≤ 2000
   pub few_literals : literals cs ≤ 8000
 
