@@ -1,6 +1,6 @@
 // Reading a feed: the words of a roll.
 ghost use Rattle.std.specs.Prelude.{◌≡◌, ◌≤◌, MatchBool};
-ghost use Rattle.round.specs.Promise.{bit_of};
+ghost use Rattle.round.specs.Exact.{bit_of};
 
 // Whether the bit of condition p is set.
 pub(crate) fn is_set(words: &[u32], p: u16) -> bool

@@ -2,13 +2,13 @@
 use Rattle.std.proofs.Common.{◌≡◌, ℕ, ◌<◌, ◌≤◌, Bool, true, false, cond, eqb, ◌⊎◌, List, [], ◌∷◌, length, get_or, Ok, Err, Result, sym, refl, ap, ◌∙◌, subst, ap₂, inl, inr, ⊎_elim, arith}
 use Rattle.std.proofs.lemmas.Bool.{cases_lt, cases_eq, both_ways}
 use Rattle.horn.specs.Sheets.{Sheet}
-use Rattle.round.specs.Answers.{Answer, ok, refused, refusal, refusal_number, refusal_names, Else, Outside}
+use Rattle.round.specs.Answers.{Answer, ok, refused, refusal, refusal_number, refusal_names, Else, Outside, Asks, Rolls}
 use Rattle.round.specs.Calls.{Call, fact, ban, mark, withdraw, ask, roll, explain, Event, event, calls, Standing, after}
-use Rattle.round.specs.Runs.{Answers, Run}
+use Rattle.round.specs.Runs.{Answers, Run, standing_sheet}
 use Rattle.round.specs.Replies.{opening_answer, fact_answer, number_answer, ask_answer, roll_answer, explain_answer}
 use Rattle.round.specs.declared.refusals.Refusal.{Refusal}
 use Rattle.round.specs.declared.refusals.Refusal.TheVariants.{TooLarge, NoCondition, FilingsFull, Contradiction, MarksFull, ShortBuffer, NoMark, NotInForce}
-use Rattle.round.specs.Determined.{One, Faithful, Determined}
+use Rattle.round.specs.Determined.{One, OneRun, Faithful, Determined}
 
 -- the last case
 one_last : (x : Answer) → One (λ a. a ≡ x)
@@ -38,14 +38,20 @@ same_bool false false = inl refl
 outside : (s : Sheet) (p : ℕ) → Outside s p ⊎ (Outside s p → ⊥)
 outside s p = either _ _ (cases_eq p 0) (below s.top p)
 
+one_ask : (s : Sheet) (p : ℕ) → One (Asks s p)
+one_ask s p = one_else _ _ _ (outside s p) (one_last _)
+
+one_roll : (s : Sheet) (n : ℕ) → One (Rolls s n)
+one_roll s n = one_else _ _ _ (below _ _) (one_last _)
+
 -- each call has one answer
 pub one_answer : (s : Sheet) (st : Standing) (c : Call) → One (Answers s st c)
 one_answer s st (fact p) = one_else _ _ _ (outside s p) (one_else _ _ _ (at_most _ _) (one_else _ _ _ (same_bool _ _) (one_last _)))
 one_answer s st (ban p) = one_else _ _ _ (outside s p) (one_else _ _ _ (at_most _ _) (one_else _ _ _ (same_bool _ _) (one_last _)))
 one_answer s st mark = one_else _ _ _ (at_most _ _) (one_last _)
 one_answer s st (withdraw m) = one_else _ _ _ (either _ _ (cases_eq m 0) (below _ _)) (one_last _)
-one_answer s st (ask p) = one_else _ _ _ (outside s p) (one_last _)
-one_answer s st (roll n) = one_else _ _ _ (below _ _) (one_last _)
+one_answer s st (ask p) = one_ask (standing_sheet s st) p
+one_answer s st (roll n) = one_roll (standing_sheet s st) n
 one_answer s st (explain p n) = one_else _ _ _ (outside s p) (one_else _ _ _ (same_bool _ _) (one_else _ _ _ (below _ _) (one_last _)))
 
 no_calls : {c : Call} {cs : List Call} → [] ≡ c ∷ cs → ⊥
@@ -78,8 +84,8 @@ some_run s st (c ∷ cs) =
     let r = some_run s (after st c o.answer) cs in
     (event c o.answer ∷ r.0, (o.this, r.1), ap (λ (x : List Call). c ∷ x) r.2)
 
-one_run : (s : Sheet) (st : Standing) (cs : List Call) → One (λ (es : List Event). Run s st es × (calls es ≡ cs))
-one_run s st cs = let r = some_run s st cs in record { answer = r.0; this = (r.1, r.2); alone = λ ds d. same_run s st ds r.0 d.0 r.1 (d.1 ∙ sym r.2) }
+one_run : (s : Sheet) (st : Standing) (cs : List Call) → OneRun (λ (es : List Event). Run s st es × (calls es ≡ cs))
+one_run s st cs = let r = some_run s st cs in record { events = r.0; this = (r.1, r.2); alone = λ ds d. same_run s st ds r.0 d.0 r.1 (d.1 ∙ sym r.2) }
 
 -- the refusal with this number and ban
 refusal_from : ℕ → List ℕ → Refusal
@@ -139,6 +145,8 @@ third_number e = cc
 pub determined : Determined
 determined = record {
   opens = λ s. one_else _ _ _ (either _ _ (below 2000 _) (below 8000 _)) (one_else _ _ _ (same_bool _ _) (one_last _));
+  asks = one_ask;
+  rolls = one_roll;
   each_call = one_answer;
   each_run = one_run;
   opening_results = faithful opening_answer (λ e. refl) (λ a. (_, _, refl))

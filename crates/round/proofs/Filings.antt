@@ -13,7 +13,7 @@ use Rattle.horn.proofs.Entailment.{standing}
 use Rattle.horn.proofs.Lawfulness.{satisfiable_tested}
 use Rattle.round.specs.Answers.{Outside}
 use Rattle.round.specs.Calls.{Filing, of_fact, of_ban, condition_of, clause_of, with_filings}
-use Rattle.round.specs.Promise.{Unsatisfiable}
+use Rattle.round.specs.Exact.{Unsatisfiable}
 
 pub not_no : (b : Bool) → (b ≡ false → ⊥) → b ≡ true
 not_no true h = refl

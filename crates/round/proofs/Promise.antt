@@ -10,7 +10,8 @@ use Rattle.horn.proofs.Lawfulness.{satisfiable_tested}
 use Rattle.round.specs.Answers.{Answer, ok, refused, Else, Outside, Opens, opened}
 use Rattle.round.specs.Calls.{Call, fact, ban, mark, withdraw, ask, roll, explain, Event, event, Filing, of_fact, of_ban, files, condition_of, Standing, nothing, filed, after, stands, at_mark, with_filings}
 use Rattle.round.specs.Runs.{Answers, Run, standing_sheet, next_sheet}
-use Rattle.round.specs.Promise.{Unsatisfiable, Entails, Contradicts, bit_of, Reports, ShortestExplanation, Promise, OpeningPromised}
+use Rattle.round.specs.Exact.{Unsatisfiable, Entails, Contradicts, bit_of}
+use Rattle.round.specs.Promise.{Reports, ShortestExplanation, Promise, OpeningPromised}
 use Rattle.round.specs.Good.{good}
 use Rattle.round.specs.Sound.{position, round_is, round_lawful, PromiseKept}
 use Rattle.round.proofs.Alike.{withdraws_alike}
@@ -168,6 +169,6 @@ opening_promised s w a r = record { contradicts = opening_contradicts s w a r; n
 -- so does every round: filings that stand can be taken away
 pub promise_kept : PromiseKept
 promise_kept r = promised (position r).sheet (sound_take (position r).sheet (position r).standing.filings 0 record {
-  lawful = (round_lawful r).lawful;
+  lawful = subst Lawful (sym (round_is r)) (round_lawful r).lawful;
   satisfied = ap satisfiable (round_is r) ∙ (good r.state r.ok).unbroken;
 })

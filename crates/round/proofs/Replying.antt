@@ -1,14 +1,17 @@
 -- The accepted answers fit what the calls answer.
-use Rattle.std.proofs.Common.{◌≡◌, ℕ, ◌<◌, ◌≤◌, Bool, true, false, cond, ◌⊎◌, List, [], ◌∷◌, ◌++◌, length, take, drop, sym, refl, ap, ◌∙◌, ap₂, inl, inr, ⊎_elim, arith}
+use Rattle.std.proofs.Common.{◌≡◌, ℕ, ◌<◌, ◌≤◌, Bool, true, false, cond, ◌⊎◌, List, [], ◌∷◌, ◌++◌, length, take, drop, Ok, Err, Result, sym, refl, ap, ◌∙◌, ap₂, inl, inr, ⊎_elim, arith}
 use Rattle.std.proofs.lemmas.List.{take_at}
 use Rattle.std.proofs.lemmas.Bool.{both_ways}
 use Rattle.horn.specs.Sheets.{Sheet, literals}
 use Rattle.horn.specs.Levels.{in_force, how_many}
 use Rattle.horn.specs.Bans.{discharged}
 use Rattle.horn.specs.Lawfulness.{satisfiable}
-use Rattle.round.specs.Answers.{Answer, ok, refused, Opens, Asks, Rolls, words_for, roll_words, up_to}
+use Rattle.round.specs.Answers.{Answer, ok, refused, Opens, Asks, Rolls, words_for, roll_words, up_to, opened}
 use Rattle.round.specs.Calls.{Standing, after, explain}
 use Rattle.round.specs.Ranks.{Ranks, ranked}
+use Rattle.round.specs.Replies.{opening_answer, sheet_left}
+use Rattle.round.specs.declared.refusals.Opened.{Opened}
+use Rattle.round.specs.declared.refusals.Refusal.{Refusal}
 use Rattle.round.proofs.Meaning.{in_force_ranked}
 use Rattle.round.proofs.Rolls.{how_many_same, roll_same, length_words}
 
@@ -31,6 +34,11 @@ rolls_ok s n m after rest space en ea =
     let w : ℕ = words_for s.top in
     let written : take w after ≡ roll_words (in_force s) s.top = ap (take w) ea ∙ take_at (roll_words (in_force s) s.top) rest w (length_words (up_to s.top (in_force s)) w) in
     inr (λ h. omega arith, ap₂ (λ (x : ℕ) (ws : List ℕ). ok (x ∷ []) ws) en written)
+
+-- an opening leaves the sheet that its answer says
+pub opened_left : (r : Result Opened Refusal) (s : Sheet) → opened (opening_answer r) s ≡ sheet_left r s
+opened_left (Ok o) s = refl
+opened_left (Err e) s = refl
 
 -- an explain leaves what stands, whatever it answers
 pub explain_leaves : (st : Standing) (p n : ℕ) (a : Answer) → after st (explain p n) a ≡ st

@@ -5,7 +5,7 @@ use Rattle.std.proofs.lemmas.Nat.{pow_pos, pow-add, shr_high}
 use Rattle.std.proofs.lemmas.List.{get_or_append_left, get_or_push}
 use Rattle.std.proofs.lemmas.Bool.{cases_lt, le-leb}
 use Rattle.round.specs.Answers.{words_for, bits, words_of, roll_words}
-use Rattle.round.specs.Promise.{bit_of}
+use Rattle.round.specs.Exact.{bit_of}
 use Rattle.round.proofs.Rolls.{and_true, bits_lt, length_words}
 
 -- a multiple of 2 ^ n more leaves the lower bits

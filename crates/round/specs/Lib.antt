@@ -3,6 +3,7 @@ pub mod Occurrences
 pub mod Ranks
 pub mod Steps
 pub mod Answers
+pub mod Exact
 pub mod Calls
 pub mod Runs
 pub mod Promise

@@ -1,30 +1,15 @@
--- What an opened round promises of every list of calls, accepted or refused. Read this file first, from its last two records.
+-- What an opened round promises of every list of calls, accepted or refused. Read this file first, from its last two records; what it says of choices and
+-- bits is defined in Exact.
 -- Assumes nothing.
-use Rattle.std.specs.Prelude.{◌≡◌, ℕ, ◌-◌, ◌/◌, ◌%◌, ◌^◌, ◌<◌, ◌≤◌, Bool, true, false, cond, ◌⊎◌, ◌↔◌, List, [], ◌∷◌, ◌++◌, length, slice_index}
-use Rattle.horn.specs.Sheets.{Sheet, Choice, Condition, Lawful, Satisfies, IsTooLarge}
+use Rattle.std.specs.Prelude.{◌≡◌, ℕ, ◌<◌, ◌≤◌, Bool, true, false, cond, ◌⊎◌, ◌↔◌, List, [], ◌∷◌, ◌++◌, length}
+use Rattle.horn.specs.Sheets.{Sheet, Condition, Lawful, IsTooLarge}
 use Rattle.horn.specs.Pebblings.{Pebbling, lengths}
 use Rattle.horn.specs.Bans.{LowestBroken}
 use Rattle.horn.specs.Explanations.{Explanation}
 use Rattle.round.specs.Answers.{Answer, ok, refused, Opens, opened}
+use Rattle.round.specs.Exact.{Unsatisfiable, Entails, Contradicts, bit_of}
 use Rattle.round.specs.Calls.{Call, fact, ban, mark, withdraw, ask, roll, explain, Event, event, calls, Filing, files, condition_of, nothing, stands}
 use Rattle.round.specs.Runs.{Run, standing_sheet, next_sheet}
-
--- no choice satisfies the sheet
-abbrev pub Unsatisfiable : Sheet → Type 0
-Unsatisfiable s = (v : Choice s) → Satisfies s v → ⊥
-
--- every choice that satisfies the sheet holds the condition
-abbrev pub Entails : Sheet → ℕ → Type 0
-Entails s q = (v : Choice s) → Satisfies s v → v.holds q ≡ true
-
--- the answer turns the call back as contradictory
-abbrev pub Contradicts : Answer → Type 0
-Contradicts (ok ns written) = ⊥
-Contradicts (refused n named) = n ≡ 8
-
--- the bit of condition q in the words of a roll
-abbrev pub bit_of : List ℕ → ℕ → ℕ
-bit_of words q = slice_index words ((q - 1) / 32) / 2 ^ ((q - 1) % 32) % 2
 
 -- The answer reports condition q, of `top` conditions, as in force (b is true) or as not in force (b is false): an ask by 1 or 0, a roll by the
 -- condition's bit, an explain by an explanation or a buffer that is too short for it, or by refusal 12.

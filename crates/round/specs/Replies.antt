@@ -1,5 +1,6 @@
 -- The answers of the code, in the terms of Answers.
 use Rattle.std.specs.Prelude.{ℕ, Bool, cond, List, [], ◌∷◌, ◌++◌, take, drop, Ok, Err, Result}
+use Rattle.horn.specs.Sheets.{Sheet, empty_sheet}
 use Rattle.round.specs.Answers.{Answer, ok, words_for, roll_words}
 pub use Rattle.round.specs.Answers.{refusal, refusal_number, refusal_names}
 use Rattle.round.specs.declared.refusals.Refusal.{Refusal}
@@ -36,6 +37,11 @@ number_answer (Err e) = refusal e
 abbrev pub explain_answer : Result Explained Refusal → List ℕ → Answer
 explain_answer (Ok x) buffer = ok (x.length ∷ (x.steps ∷ [])) (take x.steps buffer)
 explain_answer (Err e) buffer = refusal e
+
+-- The sheet of a round after an opening: the source's; a refused opening leaves the empty one.
+abbrev pub sheet_left : Result Opened Refusal → Sheet → Sheet
+sheet_left (Ok o) s = s
+sheet_left (Err e) s = empty_sheet
 
 -- A buffer after a roll: the set, then what stood there; a refused roll changes nothing.
 abbrev pub buffer_left : Result ℕ Refusal → (ℕ → Bool) → ℕ → List ℕ → List ℕ

@@ -20,9 +20,9 @@ use Rattle.round.specs.declared.sound.Round.{Round}
 abbrev pub position : Round → Position
 position r = state_position r.state
 
--- the sheet of a round as a source: its sheet's clauses, then its filings
+-- the clauses and conditions that a round holds
 abbrev pub round_sheet : Round → Sheet
-round_sheet r = standing_sheet (position r).sheet (position r).standing
+round_sheet r = state_sheet r.state
 
 restored : (b : List ℕ) (o : Option ℕ) → (length b + outcome_size o == 1) ≡ true → clause_of (filing_with b o) ≡ record { body = b; outcome = o }
 restored [] None e = let k : ◌≡◌ {A = ℕ} 0 1 = eqb-true 0 1 e in absurd (omega arith)
@@ -42,7 +42,7 @@ position_sheet st k =
     ap {B = Sheet} (λ (xs : List Clause). record { top = st.tables.conditions; clauses = xs })
     (ap (λ (xs : List Clause). take st.opened cs ++ xs) (all_restored (drop st.opened cs) k.filings) ∙ take-append-drop st.opened cs)
 
-pub round_is : (r : Round) → round_sheet r ≡ state_sheet r.state
+pub round_is : (r : Round) → standing_sheet (position r).sheet (position r).standing ≡ round_sheet r
 round_is r = position_sheet r.state (good r.state r.ok).kept
 
 state_lawful : (st : State) → Stocked st → LawfulSource (state_sheet st)
@@ -55,11 +55,15 @@ state_lawful st g =
     }
 
 pub round_lawful : (r : Round) → LawfulSource (round_sheet r)
-round_lawful r = subst LawfulSource (sym (round_is r)) (state_lawful r.state (good r.state r.ok).stocked)
+round_lawful r = state_lawful r.state (good r.state r.ok).stocked
 
 -- No round exists whose clauses no choice satisfies.
 abbrev pub Satisfied : Type 0
 Satisfied = (r : Round) → (v : Choice (round_sheet r)) × Satisfies (round_sheet r) v
+
+-- The clauses of a round, which it has as a source, are those of the sheet that it was opened on, then its filings.
+abbrev pub FilingsHeld : Type 0
+FilingsHeld = (r : Round) → round_sheet r ≡ standing_sheet (position r).sheet (position r).standing
 
 -- Every round keeps the promise of the sheet that it was opened on.
 abbrev pub PromiseKept : Type 0

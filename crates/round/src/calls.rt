@@ -2,10 +2,10 @@
 ghost use Rattle.std.specs.Prelude.{◌≡◌, length, take, IfOk};
 ghost use Rattle.horn.specs.Sheets.{empty_sheet};
 ghost use Rattle.horn.specs.Levels.{in_force, explanation};
-ghost use Rattle.round.specs.Answers.{Opens, words_for, opened};
+ghost use Rattle.round.specs.Answers.{Opens, Asks, Rolls, words_for, opened};
 ghost use Rattle.round.specs.Calls.{fact as fact_call, ban as ban_call, mark as mark_call, withdraw as withdraw_call, ask as ask_call, roll as roll_call, explain as explain_call, nothing};
 ghost use Rattle.round.specs.Promise.{OpeningPromise};
-ghost use Rattle.round.specs.Replies.{opening_answer, fact_answer, number_answer, ask_answer, roll_answer, explain_answer, buffer_left, steps_left};
+ghost use Rattle.round.specs.Replies.{opening_answer, fact_answer, number_answer, ask_answer, roll_answer, explain_answer, sheet_left, buffer_left, steps_left};
 ghost use Rattle.round.specs.Runs.{Step};
 ghost use Rattle.round.specs.Sound.{position, round_sheet};
 
@@ -19,7 +19,8 @@ use std::alloc::{AllocError, Global};
 impl Round {
     // A round without clauses. No other call can want memory.
     pub fn new(heap: Global) -> Result<Round, AllocError>
-        ensures { IfOk result (λ t. ((position t).sheet ≡ empty_sheet) × ((position t).standing ≡ nothing)) }
+        ensures sheet { IfOk result (λ t. round_sheet t ≡ empty_sheet) }
+        ensures start { IfOk result (λ t. ((position t).sheet ≡ empty_sheet) × ((position t).standing ≡ nothing)) }
     {
         let state = State::new(heap)?;
         Ok(Round { state })
@@ -29,6 +30,7 @@ impl Round {
     // follows is in specs/Promise.antt.
     pub fn open<S: Source>(&mut self, source: &S) -> Result<Opened, Refusal>
         ensures answer { Opens (S.Source.sheet source.now) (opening_answer result) }
+        ensures left { round_sheet self.new ≡ sheet_left result (S.Source.sheet source.now) }
         ensures sheet { (position self.new).sheet ≡ opened (opening_answer result) (S.Source.sheet source.now) }
         ensures standing { (position self.new).standing ≡ nothing }
         ensures promise { OpeningPromise (S.Source.sheet source.now) (opening_answer result) }
@@ -66,7 +68,8 @@ impl Round {
 
     // Whether condition p is in force.
     pub fn ask(&self, p: u16) -> Result<bool, Refusal>
-        ensures { Step (position self.now) (ask_call p) (ask_answer result) (position self.now) }
+        ensures answer { Asks (round_sheet self.now) p (ask_answer result) }
+        ensures step { Step (position self.now) (ask_call p) (ask_answer result) (position self.now) }
     {
         if p == 0 || p > self.state.tables.conditions {
             return Err(Refusal::NoCondition);
@@ -76,6 +79,7 @@ impl Round {
 
     // Writes the set of the conditions in force, one bit each, and answers its size.
     pub fn roll(&self, words: &mut [u32]) -> Result<u16, Refusal>
+        ensures answer { Rolls (round_sheet self.now) (length words.old) (roll_answer result (take (words_for (round_sheet self.now).top) words.new)) }
         ensures step { Step (position self.now) (roll_call (length words.old)) (roll_answer result (take (words_for (round_sheet self.now).top) words.new)) (position self.now) }
         ensures buffer { words.new ≡ buffer_left result (in_force (round_sheet self.now)) (round_sheet self.now).top words.old }
     {

@@ -1,7 +1,8 @@
 // What the answers of a round mean: each contract below is a theorem, so the check asks for its proof.
 ghost use Rattle.round.specs.Determined.{Determined};
+ghost use Rattle.round.specs.Exact.{OpeningExact, ReportsExact};
 ghost use Rattle.round.specs.Examples.{WorkedRun};
-ghost use Rattle.round.specs.Sound.{PromiseKept, Satisfied};
+ghost use Rattle.round.specs.Sound.{FilingsHeld, PromiseKept, Satisfied};
 
 // Each call has exactly one answer, and one result.
 pub fn determined_stands() -> u8
@@ -13,6 +14,27 @@ pub fn determined_stands() -> u8
 // Some choice satisfies the clauses of every round.
 pub fn satisfied_stands() -> u8
     ensures { Satisfied }
+{
+    0
+}
+
+// An opening is turned back as contradictory exactly when no choice satisfies the sheet, and names the lowest broken ban.
+pub fn opening_exact_stands() -> u8
+    ensures { OpeningExact }
+{
+    0
+}
+
+// Asks and rolls report a condition in force exactly when every satisfying choice holds it.
+pub fn reports_exact_stands() -> u8
+    ensures { ReportsExact }
+{
+    0
+}
+
+// A round holds the clauses of the sheet that it was opened on, then its filings.
+pub fn filings_held_stands() -> u8
+    ensures { FilingsHeld }
 {
     0
 }

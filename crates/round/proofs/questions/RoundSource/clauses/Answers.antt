@@ -1,8 +1,6 @@
-use Rattle.std.proofs.Common.{length, sym, ap, ◌∙◌}
-use Rattle.horn.specs.Sheets.{Sheet}
+use Rattle.std.proofs.Common.{sym, ◌∙◌}
 use Rattle.round.specs.Good.{good}
 use Rattle.round.specs.Held.{held_rows}
-use Rattle.round.specs.Sound.{round_is}
 use Rattle.round.proofs.Lookups.{length_clauses}
 use Rattle.round.proofs.questions.RoundSource.clauses.Goals as goal
 
@@ -13,4 +11,4 @@ pub returns : goal.returns
 returns c =
     let r = c.args.self.now in
     let t = r.state.tables in
-    c.clauses.ensures ∙ t.outcomes.ok.0 ∙ sym (length_clauses (held_rows t)) ∙ ap (λ (s : Sheet). length s.clauses) (sym (round_is r))
+    c.clauses.ensures ∙ t.outcomes.ok.0 ∙ sym (length_clauses (held_rows t))

@@ -1,9 +1,5 @@
-use Rattle.std.proofs.Common.{sym, ap, ◌∙◌}
-use Rattle.horn.specs.Sheets.{Sheet}
-use Rattle.horn.specs.Sources.{outcome_at}
 use Rattle.round.specs.Good.{good}
 use Rattle.round.specs.Held.{held_rows}
-use Rattle.round.specs.Sound.{round_is}
 use Rattle.round.proofs.Growing.{filled_writing}
 use Rattle.round.proofs.questions.RoundSource.outcome.Goals as goal
 
@@ -11,4 +7,4 @@ pub outcome-requires : goal.outcome-requires
 outcome-requires c = let st = c.args.self.now.state in filled_writing (held_rows st.tables) (good st c.args.self.now.ok).stocked.filled
 
 pub returns : goal.returns
-returns c = c.outcome.ensures ∙ ap (λ (s : Sheet). outcome_at s c.args.i) (sym (round_is c.args.self.now))
+returns c = c.outcome.ensures

@@ -28,7 +28,10 @@ returns c =
     let b : Bool = ltb 0 c.index.result.now in
     let a = asks_ok (state_sheet st) p b low c.if-p-self.false (ap (ltb 0) is ∙ in_force_ranked (state_sheet st) ps g.ranked p low) in
     record {
-      answers = subst (λ (s : Sheet). Asks s p (ask_answer (Ok b))) (sym (round_is c.args.self.now)) a;
-      sheet = refl;
-      stands = refl;
+      answer = a;
+      step = record {
+        answers = subst (λ (s : Sheet). Asks s p (ask_answer (Ok b))) (sym (round_is c.args.self.now)) a;
+        sheet = refl;
+        stands = refl;
+      };
     }

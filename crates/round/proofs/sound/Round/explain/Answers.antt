@@ -1,10 +1,9 @@
 use Rattle.std.proofs.Common.{ℕ, length, sym, ap, ◌∙◌, subst}
 use Rattle.horn.specs.Sheets.{Sheet}
-use Rattle.horn.specs.Levels.{explanation}
 use Rattle.round.specs.Answers.{Answer, Explains}
 use Rattle.round.specs.Calls.{Standing}
 use Rattle.round.specs.Runs.{Position}
-use Rattle.round.specs.Replies.{explain_answer, steps_left}
+use Rattle.round.specs.Replies.{explain_answer}
 use Rattle.round.specs.Good.{good}
 use Rattle.round.specs.Sound.{round_is}
 use Rattle.round.proofs.Replying.{explain_leaves}
@@ -29,5 +28,5 @@ returns c =
         sheet = ap {B = Sheet} (λ (x : Position). x.sheet) same;
         stands = ap {B = Standing} (λ (x : Position). x.standing) same ∙ sym (explain_leaves _ p n a);
       };
-      buffer = c.explain.ensures.buffer ∙ ap (λ (s : Sheet). steps_left c.explain.result (explanation s p) c.args.steps.now) (sym (round_is r));
+      buffer = c.explain.ensures.buffer;
     }

@@ -27,10 +27,11 @@ returns c =
     let a = rolls_ok s c.write_roll.result (length c.args.words.now) c.write_roll.new.words rest space n b in
     let back = sym (round_is c.args.self.now) in
     record {
+      answer = a;
       step = record {
         answers = subst (λ (x : Sheet). Rolls x (length c.args.words.now) (ok (c.write_roll.result ∷ []) (take (words_for s.top) c.write_roll.new.words))) back a;
         sheet = refl;
         stands = refl;
       };
-      buffer = b ∙ ap (λ (x : Sheet). roll_words (in_force x) s.top ++ rest) back;
+      buffer = b;
     }
