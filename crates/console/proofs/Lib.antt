@@ -3,5 +3,3 @@ pub mod Writing
 pub mod Once
 pub mod Answering
 pub mod Turns
-pub mod Lawful
-pub mod Running

@@ -10,13 +10,11 @@ use Rattle.text.specs.Judging.{Good}
 use Rattle.text.specs.Verdicts.{Judged}
 use Rattle.text.specs.Reading.{Meant}
 use Rattle.text.proofs.Pinned.{one_answer}
-use Rattle.round.specs.Answers.{Answer, Opens, opened}
-use Rattle.round.specs.Calls.{Call, after, mark as set_mark}
-use Rattle.round.specs.Runs.{Position}
+use Rattle.round.specs.Answers.{Answer, Opens, Asks}
 use Rattle.round.proofs.Choosing.{determined}
-use Rattle.console.specs.Records.{Verb, filing_fact, filing_ban, withdrawing, asking, explaining, Record, network, show, opening, marking, calling, mark, bytes_of, all_bytes, Fitting, NoRecord, ParsedOnce}
+use Rattle.console.specs.Records.{Record, network, show, opening, asking, mark, bytes_of, all_bytes, Fitting, NoRecord, ParsedOnce}
 use Rattle.console.specs.Lines.{Reply, line}
-use Rattle.console.specs.Session.{State, Judging, Calling, Step, Session, done, step, ServedOnce, verdict_reply, kept, answer_reply, call_reply, call_of, fresh, ending, at_first}
+use Rattle.console.specs.Session.{State, Judging, Step, Session, done, step, ServedOnce, verdict_reply, kept, answer_reply, opened, ending, at_first}
 use Rattle.console.proofs.Parsing.{joined_bytes}
 
 -- the record at the front of the bytes, by its mark
@@ -25,10 +23,10 @@ sheet_at f [] = None
 sheet_at f (hi ∷ []) = None
 sheet_at f (hi ∷ lo ∷ bs) = Some (f (take (256 * hi + lo) bs), drop (256 * hi + lo) bs)
 
-abbrev number_at : Verb → List ℕ → Option (Record × List ℕ)
-number_at v [] = None
-number_at v (hi ∷ []) = None
-number_at v (hi ∷ lo ∷ bs) = Some (calling v (256 * hi + lo), bs)
+abbrev number_at : (ℕ → Record) → List ℕ → Option (Record × List ℕ)
+number_at f [] = None
+number_at f (hi ∷ []) = None
+number_at f (hi ∷ lo ∷ bs) = Some (f (256 * hi + lo), bs)
 
 abbrev first : List ℕ → Option (Record × List ℕ)
 first [] = None
@@ -37,12 +35,7 @@ first (a ∷ b ∷ bs) =
     cond (eqb a 78 && eqb b 83) (sheet_at network bs)
     (cond (eqb a 83 && eqb b 83) (sheet_at show bs)
     (cond (eqb a 79 && eqb b 80) (Some (opening, bs))
-    (cond (eqb a 77 && eqb b 75) (Some (marking, bs))
-    (cond (eqb a 70 && eqb b 65) (number_at filing_fact bs)
-    (cond (eqb a 66 && eqb b 65) (number_at filing_ban bs)
-    (cond (eqb a 87 && eqb b 68) (number_at withdrawing bs)
-    (cond (eqb a 65 && eqb b 83) (number_at asking bs)
-    (cond (eqb a 69 && eqb b 88) (number_at explaining bs) None))))))))
+    (cond (eqb a 65 && eqb b 83) (number_at asking bs) None)))
 
 sheet_read : (f : List ℕ → Record) (t tail : List ℕ) → sheet_at f (length t / 256 ∷ length t % 256 ∷ (t ++ tail)) ≡ Some (f t, tail)
 sheet_read f t tail = rw (joined_bytes (length t), take_at t tail (length t) refl, drop_at t tail (length t) refl)
@@ -51,12 +44,7 @@ first_read : (r : Record) (tail : List ℕ) → first (bytes_of r ++ tail) ≡ S
 first_read (network t) tail = sheet_read network t tail
 first_read (show t) tail = sheet_read show t tail
 first_read opening tail = refl
-first_read marking tail = refl
-first_read (calling filing_fact n) tail = rw (joined_bytes n)
-first_read (calling filing_ban n) tail = rw (joined_bytes n)
-first_read (calling withdrawing n) tail = rw (joined_bytes n)
-first_read (calling asking n) tail = rw (joined_bytes n)
-first_read (calling explaining n) tail = rw (joined_bytes n)
+first_read (asking n) tail = rw (joined_bytes n)
 
 front_once : (r q : Record) (a b : List ℕ) → bytes_of r ++ a ≡ bytes_of q ++ b → (r ≡ q) × (a ≡ b)
 front_once r q a b e =
@@ -77,7 +65,7 @@ pub parsed_once : ParsedOnce
 parsed_once input rs qs a b p q = reading_once rs qs a b p.fitting q.fitting p.ended q.ended (sym p.whole ∙ q.whole)
 
 -- a text has one meaning
-pub meant_once : (s : List ℕ) (v : Result Counts Fault) (x z : Sheet) → Judged s v → Meant s x → Meant s z → x ≡ z
+meant_once : (s : List ℕ) (v : Result Counts Fault) (x z : Sheet) → Judged s v → Meant s x → Meant s z → x ≡ z
 meant_once s (Ok c) x z j m n =
     m.good c.clauses c.conditions c.literals j.0 j.1 ∙ sym (n.good c.clauses c.conditions c.literals j.0 j.1)
 meant_once s (Err f) x z j m n =
@@ -95,13 +83,8 @@ judging_once t old a b y z p q =
 opens_once : (s : Sheet) (a b : Answer) → Opens s a → Opens s b → a ≡ b
 opens_once s a b p q = (determined.opens s).alone a p ∙ sym ((determined.opens s).alone b q)
 
-calling_once : (at : Position) (c : Call) (y z : Reply) (a b : Position) → Calling at c y a → Calling at c z b → (y ≡ z) × (a ≡ b)
-calling_once at c y z a b p q =
-    let one = determined.each_call at.sheet at.standing c in
-    let e : p.answer ≡ q.answer = one.alone p.answer p.answered.answers ∙ sym (one.alone q.answer q.answered.answers) in
-    let s : a.sheet ≡ b.sheet = p.answered.sheet ∙ sym q.answered.sheet in
-    let t : a.standing ≡ b.standing = p.answered.stands ∙ ap (after at.standing c) e ∙ sym q.answered.stands in
-    (p.reply ∙ ap (call_reply c) e ∙ sym q.reply, λ i. record { sheet = s i; standing = t i })
+asks_once : (s : Sheet) (k : ℕ) (a b : Answer) → Asks s k a → Asks s k b → a ≡ b
+asks_once s k a b p q = (determined.asks s k).alone a p ∙ sym ((determined.asks s k).alone b q)
 
 same_state : (m n : State) → m.of_network ≡ n.of_network → m.of_show ≡ n.of_show → m.of_round ≡ n.of_round → m ≡ n
 same_state m n e f g = λ i. record { of_network = e i; of_show = f i; of_round = g i }
@@ -117,14 +100,11 @@ step_once st opening y z m n p q =
     let s : Sheet = joined st.of_network st.of_show in
     let a = opens_once s p.0.answer q.0.answer p.0.opens q.0.opens in (
       p.0.reply ∙ ap answer_reply a ∙ sym q.0.reply,
-      same_state m n (p.1.0 ∙ sym q.1.0) (p.1.1 ∙ sym q.1.1) (p.0.holds ∙ (λ i. fresh (opened (a i) s)) ∙ sym q.0.holds),
+      same_state m n (p.1 ∙ sym q.1) (p.2 ∙ sym q.2) (p.0.holds ∙ (λ i. opened (a i) s) ∙ sym q.0.holds),
     )
-step_once st marking y z m n p q =
-    let a = calling_once st.of_round set_mark y z m.of_round n.of_round p.0 q.0 in
-    (a.0, same_state m n (p.1.0 ∙ sym q.1.0) (p.1.1 ∙ sym q.1.1) a.1)
-step_once st (calling v k) y z m n p q =
-    let a = calling_once st.of_round (call_of v k) y z m.of_round n.of_round p.0 q.0 in
-    (a.0, same_state m n (p.1.0 ∙ sym q.1.0) (p.1.1 ∙ sym q.1.1) a.1)
+step_once st (asking k) y z m n p q =
+    let a = asks_once st.of_round k p.0.answer q.0.answer p.0.asks q.0.asks in
+    (p.0.reply ∙ ap answer_reply a ∙ sym q.0.reply, p.1 ∙ sym q.1)
 
 session_once : {st last end : State} {rs : List Record} {out put : List ℕ} → Session st rs out last → Session st rs put end → out ≡ put
 session_once done done = refl

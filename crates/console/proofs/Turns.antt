@@ -2,11 +2,10 @@
 use Rattle.std.proofs.Common.{◌≡◌, ℕ, ◌-◌, ◌<◌, List, [], ◌∷◌, ◌++◌, length, codes, sym, refl, ap, ◌∙◌, subst, append_assoc, arith, length-append}
 use Rattle.std.proofs.lemmas.List.{flat_map_more, append-nil}
 use Rattle.std.proofs.ByRecursion.{All-append}
-use Rattle.console.specs.Records.{Record, mark, content, bytes_of, all_bytes, Fitting, NoRecord}
+use Rattle.console.specs.Records.{Record, network, show, opening, asking, mark, bytes_of, all_bytes, Fitting, NoRecord}
 use Rattle.console.specs.Lines.{Reply, refused, in_record, line}
 use Rattle.console.specs.Session.{State, Session, done, step, Step, Served, at_first}
 use Rattle.console.specs.Serving.{SoFar, Printed}
-use Rattle.console.proofs.Parsing.{front_record}
 
 -- a session and one step more
 session_more : {st last next : State} {rs : List Record} {out : List ℕ} (r : Record) (y : Reply) → Session st rs out last → Step last r y next
@@ -31,7 +30,10 @@ one_more input rest tail out after st next r s f e p = record {
 
 -- a record has bytes, so that the rest falls
 pub rest_falls : (r : Record) (rest tail : List ℕ) → rest ≡ bytes_of r ++ tail → length tail < length rest
-rest_falls r rest tail e = omega (arith, ap length (front_record r tail rest e), length-append (content r) tail)
+rest_falls (network t) rest tail e = omega (arith, ap length e, length-append t tail)
+rest_falls (show t) rest tail e = omega (arith, ap length e, length-append t tail)
+rest_falls opening rest tail e = omega (arith, ap length e)
+rest_falls (asking n) rest tail e = omega (arith, ap length e)
 
 -- where the reading ends
 pub ended_here : (input rest out : List ℕ) (st : State) → SoFar input rest out st → NoRecord rest → length rest ≡ 0 → Served input out

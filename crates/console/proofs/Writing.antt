@@ -1,5 +1,5 @@
 -- Lines that are written piece by piece.
-use Rattle.std.proofs.Common.{◌≡◌, ℕ, ◌+◌, ◌<◌, cond, List, [], ◌∷◌, ◌++◌, length, get_or, take, is_ok, IfOk, Ok, Err, codes, decimal, Result, sym, refl, ap, ◌∙◌, append_assoc}
+use Rattle.std.proofs.Common.{◌≡◌, ℕ, ◌+◌, ◌<◌, cond, List, [], ◌∷◌, ◌++◌, length, get_or, take, is_ok, IfOk, Ok, Err, codes, decimal, Result, sym, ap, ◌∙◌, append_assoc}
 use Rattle.std.proofs.lemmas.List.{flat_map_more, take_more}
 use Rattle.console.specs.Lines.{Layer, layer_name, accepted, refused, numbers, line}
 
@@ -11,15 +11,10 @@ last_made (Err y) was now ys zs e f = tt
 pub numbers_more : (bs ns : List ℕ) (i : ℕ) → i < length ns → (bs ++ numbers (take i ns)) ++ (32 ∷ decimal (get_or ns i 0)) ≡ bs ++ numbers (take (i + 1) ns)
 numbers_more bs ns i h = flat_map_more (λ n. 32 ∷ decimal n) bs (take i ns) (get_or ns i 0) ∙ ap (λ (l : List ℕ). bs ++ numbers l) (sym (take_more ns i 0 h))
 
-numbers_append : (ns ws : List ℕ) → numbers (ns ++ ws) ≡ numbers ns ++ numbers ws
-numbers_append [] ws = refl
-numbers_append (n ∷ ns) ws = ap (λ (l : List ℕ). (32 ∷ decimal n) ++ l) (numbers_append ns ws) ∙ sym (append_assoc (32 ∷ decimal n) (numbers ns) (numbers ws))
-
-pub accepted_line : (a b c d e m ns ws : List ℕ) → b ≡ a ++ m → c ≡ b ++ codes " ok" → d ≡ c ++ numbers ns → e ≡ d ++ numbers ws
-    → e ++ (10 ∷ []) ≡ a ++ line m (accepted (ns ++ ws))
-accepted_line a b c d e m ns ws p q r s =
-    let h : e ≡ (((a ++ m) ++ codes " ok") ++ numbers ns) ++ numbers ws = cc in
-    ap (λ (l : List ℕ). l ++ (10 ∷ [])) h ∙ simp (append_assoc, numbers_append)
+pub accepted_line : (a b c d m ns : List ℕ) → b ≡ a ++ m → c ≡ b ++ codes " ok" → d ≡ c ++ numbers ns → d ++ (10 ∷ []) ≡ a ++ line m (accepted ns)
+accepted_line a b c d m ns e f g =
+    let h : d ≡ ((a ++ m) ++ codes " ok") ++ numbers ns = cc in
+    ap (λ (l : List ℕ). l ++ (10 ∷ [])) h ∙ simp append_assoc
 
 pub refused_line : (a b c d e z m : List ℕ) (y : Layer) (n : ℕ) (ps : List ℕ) → b ≡ a ++ m → c ≡ b ++ codes " no " → d ≡ c ++ layer_name y → e ≡ d ++ (32 ∷ decimal n)
     → z ≡ e ++ numbers ps → z ++ (10 ∷ []) ≡ a ++ line m (refused y n ps)

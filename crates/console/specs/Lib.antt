@@ -4,4 +4,3 @@ pub mod Taking
 pub mod Layers
 pub mod Session
 pub mod Serving
-pub mod Running

@@ -2,36 +2,19 @@
 use Rattle.std.specs.Prelude.{◌≡◌, ℕ, ◌/◌, ◌%◌, ◌<◌, List, [], ◌∷◌, ◌++◌, length, codes, ◌≢◌}
 use Rattle.std.specs.List.{flat_map, AllByRecursion}
 
--- what a record with a number asks of the round: a fact or a ban of the condition, a withdrawal to the mark, whether or how the condition is in force
-pub data Verb : Type 0 where
-  filing_fact : Verb
-  filing_ban : Verb
-  withdrawing : Verb
-  asking : Verb
-  explaining : Verb
-
--- the network's sheet and the show's sheet, each with its text; an opening; a mark; a call with its number
+-- the network's sheet and the show's sheet, each with its text; an opening; a question for a condition
 pub data Record : Type 0 where
   network : List ℕ → Record
   show : List ℕ → Record
   opening : Record
-  marking : Record
-  calling : Verb → ℕ → Record
-
-abbrev pub verb_mark : Verb → List ℕ
-verb_mark filing_fact = codes "FA"
-verb_mark filing_ban = codes "BA"
-verb_mark withdrawing = codes "WD"
-verb_mark asking = codes "AS"
-verb_mark explaining = codes "EX"
+  asking : ℕ → Record
 
 -- the two bytes at which a record is known
 abbrev pub mark : Record → List ℕ
 mark (network t) = codes "NS"
 mark (show t) = codes "SS"
 mark opening = codes "OP"
-mark marking = codes "MK"
-mark (calling v n) = verb_mark v
+mark (asking n) = codes "AS"
 
 -- a number in two bytes, the high one first
 abbrev pub two_bytes : ℕ → List ℕ
@@ -42,19 +25,17 @@ abbrev pub content : Record → List ℕ
 content (network t) = two_bytes (length t) ++ t
 content (show t) = two_bytes (length t) ++ t
 content opening = []
-content marking = []
-content (calling v n) = two_bytes n
+content (asking n) = two_bytes n
 
 abbrev pub bytes_of : Record → List ℕ
 bytes_of r = mark r ++ content r
 
--- its length or number fits in two bytes
+-- its length or number can be told in two bytes
 abbrev pub Fitting : Record → Type 0
 Fitting (network t) = length t < 65536
 Fitting (show t) = length t < 65536
 Fitting opening = Unit {0}
-Fitting marking = Unit {0}
-Fitting (calling v n) = n < 65536
+Fitting (asking n) = n < 65536
 
 -- no record begins here
 abbrev pub NoRecord : List ℕ → Type 0

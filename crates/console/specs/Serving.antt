@@ -1,10 +1,8 @@
 -- What the parts of the program do, in the terms of Session.
-use Rattle.std.specs.Prelude.{◌≡◌, ℕ, ◌≤◌, List, ◌++◌, length, Ok, Err, Result}
+use Rattle.std.specs.Prelude.{◌≡◌, ℕ, List, ◌++◌}
 use Rattle.std.specs.List.{AllByRecursion}
 use Rattle.text.specs.InPlace.{text_sheet}
-use Rattle.round.specs.declared.refusals.Explained.{Explained}
-use Rattle.round.specs.declared.refusals.Refusal.{Refusal}
-use Rattle.round.specs.Sound.{position}
+use Rattle.round.specs.Sound.{round_sheet}
 use Rattle.console.specs.declared.desk.Desk.{Desk}
 use Rattle.console.specs.Records.{Record, all_bytes, Fitting}
 use Rattle.console.specs.Lines.{Reply, line}
@@ -12,7 +10,7 @@ use Rattle.console.specs.Session.{State, Session, at_first}
 
 -- what a desk holds
 abbrev pub desk_state : Desk → State
-desk_state d = record { of_network = text_sheet d.network; of_show = text_sheet d.show; of_round = position d.round }
+desk_state d = record { of_network = text_sheet d.network; of_show = text_sheet d.show; of_round = round_sheet d.round }
 
 -- one line was added to the text, that of a fitting reply
 pub record Printed (mark before after : List ℕ) (Fits : Reply → Type 0) : Type 0 where
@@ -26,8 +24,3 @@ pub record SoFar (input rest out : List ℕ) (st : State) : Type 0 where
   pub fitting : AllByRecursion Fitting records
   pub whole : input ≡ all_bytes records ++ rest
   pub session : Session at_first records out st
-
--- the steps of an explain are all in the buffer
-abbrev pub HeldIn : Result Explained Refusal → List ℕ → Type 0
-HeldIn (Ok x) buffer = x.steps ≤ length buffer
-HeldIn (Err e) buffer = Unit {0}

@@ -1,46 +1,23 @@
 -- What the console answers to records in turn, and what it prints for a whole input. Assumes nothing.
-use Rattle.std.specs.Prelude.{◌≡◌, ℕ, List, [], ◌∷◌, ◌++◌, length, take, Ok, Err, codes, Result}
+use Rattle.std.specs.Prelude.{◌≡◌, ℕ, List, [], ◌∷◌, ◌++◌, length, Ok, Err, codes, Result}
 use Rattle.horn.specs.Sheets.{Sheet, empty_sheet}
 use Rattle.horn.specs.Joining.{joined}
 use Rattle.text.specs.declared.verdict.Counts.{Counts}
 use Rattle.text.specs.declared.verdict.Fault.{Fault}
 use Rattle.text.specs.Verdicts.{Judged, fault_number, fault_place}
 use Rattle.text.specs.Reading.{Meant}
-use Rattle.round.specs.Answers.{Answer, ok as answers, refused as refuses, Opens, opened}
-use Rattle.round.specs.Calls.{Call, fact, ban, mark as set_mark, withdraw, ask, roll, explain, nothing}
-use Rattle.round.specs.Runs.{Position, Step as RoundStep}
-use Rattle.console.specs.Records.{
-  Verb,
-  filing_fact,
-  filing_ban,
-  withdrawing,
-  asking,
-  explaining,
-  Record,
-  network,
-  show,
-  opening,
-  marking,
-  calling,
-  mark,
-  all_bytes,
-  Parsed,
-}
+use Rattle.round.specs.Answers.{Answer, ok as answers, refused as refuses, Opens, Asks}
+use Rattle.console.specs.Records.{Record, network, show, opening, asking, mark, all_bytes, Parsed}
 use Rattle.console.specs.Lines.{Reply, accepted, refused, in_record, in_text, in_round, line, optional}
 
--- What the console holds: the sheets of the last accepted network and show text, and the round's position, which is the sheet that it was opened on and
--- what stands.
+-- What the console holds: the sheets of the last accepted network and show text, and that of the round.
 pub record State : Type 0 where
   pub of_network : Sheet
   pub of_show : Sheet
-  pub of_round : Position
-
--- a round opened on the sheet, before any call
-abbrev pub fresh : Sheet → Position
-fresh s = record { sheet = s; standing = nothing }
+  pub of_round : Sheet
 
 abbrev pub at_first : State
-at_first = record { of_network = empty_sheet; of_show = empty_sheet; of_round = fresh empty_sheet }
+at_first = record { of_network = empty_sheet; of_show = empty_sheet; of_round = empty_sheet }
 
 -- what judging a text answers, as a reply
 abbrev pub verdict_reply : Result Counts Fault → Reply
@@ -61,59 +38,36 @@ pub record Judging (text : List ℕ) (before : Sheet) (y : Reply) (after : Sheet
   pub reply : y ≡ verdict_reply verdict
   pub holds : after ≡ kept verdict sheet before
 
--- the call that a record with a number makes; an explain writes to a buffer of 1,000 places
-abbrev pub call_of : Verb → ℕ → Call
-call_of filing_fact n = fact n
-call_of filing_ban n = ban n
-call_of withdrawing n = withdraw n
-call_of asking n = ask n
-call_of explaining n = explain n 1000
-
--- what the round answers, as a reply: the numbers
+-- what the round answers, as a reply
 abbrev pub answer_reply : Answer → Reply
 answer_reply (answers ns written) = accepted ns
-answer_reply (refuses n named) = refused in_round n named
+answer_reply (refuses n ban) = refused in_round n ban
 
--- what an explain answers, as a reply: the length, and the steps in place of how many they are
-abbrev pub steps_reply : Answer → Reply
-steps_reply (answers ns steps) = accepted (take 1 ns ++ steps)
-steps_reply (refuses n named) = refused in_round n named
+-- the sheet of a round after an opening on s; a refused opening leaves the round empty
+abbrev pub opened : Answer → Sheet → Sheet
+opened (answers ns written) s = s
+opened (refuses n ban) s = empty_sheet
 
--- what the answer of a call prints
-abbrev pub call_reply : Call → Answer → Reply
-call_reply (fact p) = answer_reply
-call_reply (ban p) = answer_reply
-call_reply set_mark = answer_reply
-call_reply (withdraw m) = answer_reply
-call_reply (ask p) = answer_reply
-call_reply (roll n) = answer_reply
-call_reply (explain p n) = steps_reply
-
--- An opening on the sheet s is answered as the rules for openings say; nothing stands after it.
-pub record Opening (s : Sheet) (y : Reply) (after : Position) : Type 0 where
+-- An opening on the sheet s is answered as the rules for openings say.
+pub record Opening (s : Sheet) (y : Reply) (after : Sheet) : Type 0 where
   pub answer : Answer
   pub opens : Opens s answer
   pub reply : y ≡ answer_reply answer
-  pub holds : after ≡ fresh (opened answer s)
+  pub holds : after ≡ opened answer s
 
--- A call is answered by the round from its position, and moves it as the round's rules say. So between two openings the calls are a run of the round.
-pub record Calling (before : Position) (c : Call) (y : Reply) (after : Position) : Type 0 where
+-- A question for condition p is answered from the round's sheet s.
+pub record Asking (s : Sheet) (p : ℕ) (y : Reply) : Type 0 where
   pub answer : Answer
-  pub answered : RoundStep before c answer after
-  pub reply : y ≡ call_reply c answer
-
--- both sheets are as they were
-abbrev pub SheetsKept : State → State → Type 0
-SheetsKept st next = (next.of_network ≡ st.of_network) × (next.of_show ≡ st.of_show)
+  pub asks : Asks s p answer
+  pub reply : y ≡ answer_reply answer
 
 -- The reply to a record, and what the console then holds: a sheet record touches its own sheet only, an opening goes by the two sheets joined, the
--- network's first, and an opening or a call touches the round only.
+-- network's first, and touches the round only, and a question touches nothing.
 abbrev pub Step : State → Record → Reply → State → Type 0
 Step st (network t) y next = Judging t st.of_network y next.of_network × (next.of_show ≡ st.of_show) × (next.of_round ≡ st.of_round)
 Step st (show t) y next = Judging t st.of_show y next.of_show × (next.of_network ≡ st.of_network) × (next.of_round ≡ st.of_round)
-Step st opening y next = Opening (joined st.of_network st.of_show) y next.of_round × SheetsKept st next
-Step st marking y next = Calling st.of_round set_mark y next.of_round × SheetsKept st next
-Step st (calling v n) y next = Calling st.of_round (call_of v n) y next.of_round × SheetsKept st next
+Step st opening y next = Opening (joined st.of_network st.of_show) y next.of_round × (next.of_network ≡ st.of_network) × (next.of_show ≡ st.of_show)
+Step st (asking p) y next = Asking st.of_round p y × (next ≡ st)
 
 -- Records in turn: what they print, one line each, and what the console holds before and after.
 pub data Session : State → List Record → List ℕ → State → Type 0 where

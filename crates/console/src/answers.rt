@@ -1,19 +1,20 @@
 // Records answered, one line each.
-ghost use Rattle.std.specs.Prelude.{◌≡◌, IfOk, string_bytes, codes, OnOk};
+ghost use Rattle.std.specs.Prelude.{◌≡◌, ◌++◌, IfOk, string_bytes, codes, OnOk};
 ghost use Rattle.horn.specs.Joining.{joined};
 ghost use Rattle.text.specs.InPlace.{text_sheet};
-ghost use Rattle.round.specs.Sound.{position};
-ghost use Rattle.console.specs.Records.{mark, verb_mark};
-ghost use Rattle.console.specs.Taking.{meaning, verb_of};
-ghost use Rattle.console.specs.Session.{Judging, Opening, Calling, Step, at_first, call_of};
+ghost use Rattle.round.specs.Replies.{refusal, refusal_names};
+ghost use Rattle.round.specs.Sound.{round_sheet};
+ghost use Rattle.console.specs.Records.{mark};
+ghost use Rattle.console.specs.Lines.{line, optional};
+ghost use Rattle.console.specs.Taking.{meaning};
+ghost use Rattle.console.specs.Session.{Judging, Opening, Asking, Step, at_first, answer_reply};
 ghost use Rattle.console.specs.Serving.{desk_state, Printed};
 
-use crate::desk::{Desk, MAX_STEPS};
+use crate::desk::Desk;
 use crate::lines::{Layer, accept, refuse};
-use crate::records::{Record, Verb};
-use crate::replies::{print_asked, print_explained, print_filed, print_number, print_opened};
+use crate::records::Record;
 use horn::joined::Joined;
-use round::Round;
+use round::{Refusal, Round};
 use std::alloc::{AllocError, Global};
 use text::TextSheet;
 
@@ -30,12 +31,29 @@ fn judge_sheet<'a>(
     let sheet = TextSheet::new(heap, bytes)?;
     match sheet.verdict() {
         Ok(c) => {
-            accept(heap, out, name, &[c.clauses, c.conditions, c.literals], &[])?;
+            accept(heap, out, name, &[c.clauses, c.conditions, c.literals])?;
             *held = sheet;
             Ok(())
         }
         Err(f) => refuse(heap, out, name, Layer::Text, f.number(), f.place()),
     }
+}
+
+// The ban that a refusal names, if any.
+fn ban(e: Refusal) -> Option<usize>
+    ensures { optional result ≡ refusal_names e }
+{
+    match e {
+        Refusal::Contradiction(n) => Some(n as usize),
+        _ => None,
+    }
+}
+
+// Adds the line of a call that the round refused.
+fn refuse_call(heap: Global, out: &mut String, name: &str, e: Refusal) -> Result<(), AllocError>
+    ensures { OnOk result (string_bytes out.new ≡ string_bytes out.old ++ line name.now (answer_reply (refusal e))) }
+{
+    refuse(heap, out, name, Layer::Round, e.number(), ban(e))
 }
 
 // Opens the round on the two sheets joined, the network's first.
@@ -46,36 +64,25 @@ fn open_round(
     show: &TextSheet<'_>,
     round: &mut Round,
 ) -> Result<(), AllocError>
-    ensures { OnOk result (Printed (codes "OP") (string_bytes out.old) (string_bytes out.new) (λ y. Opening (joined (text_sheet network.now) (text_sheet show.now)) y (position round.new))) }
+    ensures { OnOk result (Printed (codes "OP") (string_bytes out.old) (string_bytes out.new) (λ y. Opening (joined (text_sheet network.now) (text_sheet show.now)) y (round_sheet round.new))) }
 {
     let both = Joined {
         first: network,
         second: show,
     };
-    print_opened(heap, out, "OP", round.open(&both))
+    match round.open(&both) {
+        Ok(o) => accept(heap, out, "OP", &[o.clauses, o.conditions, o.discharged]),
+        Err(e) => refuse_call(heap, out, "OP", e),
+    }
 }
 
-// Makes a call with its number on the round. An explanation's steps go by the buffer.
-fn call_round(
-    heap: Global,
-    out: &mut String,
-    round: &mut Round,
-    steps: &mut [u16; MAX_STEPS],
-    verb: Verb,
-    n: u16,
-) -> Result<(), AllocError>
-    ensures { OnOk result (Printed (verb_mark (verb_of verb)) (string_bytes out.old) (string_bytes out.new) (λ y. Calling (position round.old) (call_of (verb_of verb) n) y (position round.new))) }
+// Asks the round for condition p.
+fn ask_round(heap: Global, out: &mut String, round: &Round, p: u16) -> Result<(), AllocError>
+    ensures { OnOk result (Printed (codes "AS") (string_bytes out.old) (string_bytes out.new) (λ y. Asking (round_sheet round.now) p y)) }
 {
-    let name = verb.mark();
-    match verb {
-        Verb::Fact => print_filed(heap, out, name, round.fact(n)),
-        Verb::Ban => print_number(heap, out, name, round.ban(n)),
-        Verb::Withdraw => print_number(heap, out, name, round.withdraw(n)),
-        Verb::Ask => print_asked(heap, out, name, round.ask(n)),
-        Verb::Explain => {
-            let answer = round.explain(n, steps);
-            print_explained(heap, out, name, answer, steps)
-        }
+    match round.ask(p) {
+        Ok(b) => accept(heap, out, "AS", &[u16::from(b)]),
+        Err(e) => refuse_call(heap, out, "AS", e),
     }
 }
 
@@ -91,7 +98,6 @@ impl<'a> Desk<'a> {
             network,
             show,
             round,
-            steps: [0; MAX_STEPS],
         })
     }
 
@@ -108,10 +114,7 @@ impl<'a> Desk<'a> {
             Record::Network(bytes) => judge_sheet(heap, out, "NS", bytes, &mut self.network),
             Record::Show(bytes) => judge_sheet(heap, out, "SS", bytes, &mut self.show),
             Record::Opening => open_round(heap, out, &self.network, &self.show, &mut self.round),
-            Record::Marking => print_number(heap, out, "MK", self.round.mark()),
-            Record::Calling(verb, n) => {
-                call_round(heap, out, &mut self.round, &mut self.steps, verb, n)
-            }
+            Record::Asking(p) => ask_round(heap, out, &self.round, p),
         }
     }
 }

@@ -3,7 +3,6 @@ mod answers;
 mod desk;
 mod lines;
 mod records;
-mod replies;
 mod serving;
 pub mod theorems;
 

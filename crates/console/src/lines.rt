@@ -43,30 +43,20 @@ fn push_place(heap: Global, out: &mut String, place: Option<usize>) -> Result<()
     }
 }
 
-// Adds each number after a space.
-fn push_numbers(heap: Global, out: &mut String, list: &[u16]) -> Result<(), AllocError>
-    ensures { OnOk result (string_bytes out.new ≡ string_bytes out.old ++ numbers list.now) }
-{
-    for n in list {
-        push_number(heap, out, *n as usize)?;
-    }
-    Ok(())
-}
-
-// Adds the line of an answer: its mark, ` ok`, the numbers answered and the steps written, if any.
+// Adds the line of an answer: its mark, ` ok` and the numbers.
 pub(crate) fn accept(
     heap: Global,
     out: &mut String,
     mark: &str,
     answer: &[u16],
-    steps: &[u16],
 ) -> Result<(), AllocError>
-    ensures { OnOk result (string_bytes out.new ≡ string_bytes out.old ++ line mark.now (accepted (answer.now ++ steps.now))) }
+    ensures { OnOk result (string_bytes out.new ≡ string_bytes out.old ++ line mark.now (accepted answer.now)) }
 {
     out.push_str(mark)?;
     out.push_str(" ok")?;
-    push_numbers(heap, out, answer)?;
-    push_numbers(heap, out, steps)?;
+    for n in answer {
+        push_number(heap, out, *n as usize)?;
+    }
     out.push_str("\n")
 }
 

@@ -1,45 +1,6 @@
 // Records taken off the front of the input.
 ghost use Rattle.std.specs.Prelude.{◌≡◌, ◌+◌, ◌*◌, ◌<◌, ◌≤◌, length, take, drop, MatchOption};
-ghost use Rattle.console.specs.Records.{verb_mark};
-ghost use Rattle.console.specs.Taking.{Marked, Taken, verb_of};
-
-// What a record with a number asks of the round.
-#[derive(Clone, Copy)]
-pub(crate) enum Verb {
-    Fact,
-    Ban,
-    Withdraw,
-    Ask,
-    Explain,
-}
-
-impl Verb {
-    // The verb with this mark.
-    fn marked(a: u8, b: u8) -> Option<Verb>
-        ensures { Marked a b result }
-    {
-        match (a, b) {
-            (b'F', b'A') => Some(Verb::Fact),
-            (b'B', b'A') => Some(Verb::Ban),
-            (b'W', b'D') => Some(Verb::Withdraw),
-            (b'A', b'S') => Some(Verb::Ask),
-            (b'E', b'X') => Some(Verb::Explain),
-            _ => None,
-        }
-    }
-
-    pub(crate) fn mark(self) -> &'static str
-        ensures { result.now ≡ verb_mark (verb_of self) }
-    {
-        match self {
-            Verb::Fact => "FA",
-            Verb::Ban => "BA",
-            Verb::Withdraw => "WD",
-            Verb::Ask => "AS",
-            Verb::Explain => "EX",
-        }
-    }
-}
+ghost use Rattle.console.specs.Taking.{Taken};
 
 // A record; its text is a part of the input.
 #[derive(Clone, Copy)]
@@ -47,8 +8,7 @@ pub(crate) enum Record<'a> {
     Network(&'a [u8]),
     Show(&'a [u8]),
     Opening,
-    Marking,
-    Calling(Verb, u16),
+    Asking(u16),
 }
 
 // A number of two bytes, the high one first.
@@ -84,11 +44,7 @@ pub(crate) fn take_record(input: &[u8]) -> Option<(Record<'_>, &[u8])>
             Some((Record::Show(text), rest))
         }
         [b'O', b'P', rest @ ..] => Some((Record::Opening, rest)),
-        [b'M', b'K', rest @ ..] => Some((Record::Marking, rest)),
-        [a, b, hi, lo, rest @ ..] => {
-            let verb = Verb::marked(*a, *b)?;
-            Some((Record::Calling(verb, number(*hi, *lo)), rest))
-        }
+        [b'A', b'S', hi, lo, rest @ ..] => Some((Record::Asking(number(*hi, *lo)), rest)),
         _ => None,
     }
 }

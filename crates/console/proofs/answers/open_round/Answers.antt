@@ -1,11 +1,17 @@
-use Rattle.std.proofs.Common.{string_bytes, codes, refl}
-use Rattle.round.specs.Replies.{opening_answer}
+use Rattle.std.proofs.Common.{[], ◌∷◌, string_bytes, codes, refl}
+use Rattle.round.specs.Replies.{refusal}
+use Rattle.console.specs.Lines.{accepted}
 use Rattle.console.specs.Session.{answer_reply}
 use Rattle.console.proofs.Answering.{printed_by}
 use Rattle.console.proofs.answers.open_round.Goals as goal
 
-pub returns : goal.returns
-returns c =
-    let o = c.open.ensures in
-    printed_by c.print_opened.result (codes "OP") (string_bytes c.args.out.now) (string_bytes c.print_opened.new.out) (answer_reply (opening_answer c.open.result)) _
-    (record { answer = _; opens = o.answer; reply = refl; holds = λ i. record { sheet = o.sheet i; standing = o.standing i } }) c.print_opened.ensures
+pub returns-in-Ok : goal.returns-in-Ok
+returns-in-Ok c =
+    printed_by c.accept.result (codes "OP") (string_bytes c.args.out.now) (string_bytes c.accept.new.out)
+    (accepted (c.in-Ok.o.clauses ∷ c.in-Ok.o.conditions ∷ c.in-Ok.o.discharged ∷ [])) _
+    (record { answer = _; opens = c.in-Ok.ensures.answer; reply = refl; holds = c.in-Ok.ensures.left }) c.accept.ensures
+
+pub returns-in-Err : goal.returns-in-Err
+returns-in-Err c =
+    printed_by c.refuse_call.result (codes "OP") (string_bytes c.args.out.now) (string_bytes c.refuse_call.new.out) (answer_reply (refusal c.in-Err.e)) _
+    (record { answer = _; opens = c.in-Err.ensures.answer; reply = refl; holds = c.in-Err.ensures.left }) c.refuse_call.ensures

@@ -6,5 +6,5 @@ pub returns : goal.returns
 returns c =
     let n = nothing_meant (text_sheet c.in_ok-network.network) c.in_ok-network.ensures.1 in
     let s = nothing_meant (text_sheet c.in_ok-show.show) c.in_ok-show.ensures.1 in
-    let r = c.in_ok-round.ensures.start in
-    λ i. record { of_network = n i; of_show = s i; of_round = record { sheet = r.0 i; standing = r.1 i } }
+    let r = c.in_ok-round.ensures.sheet in
+    λ i. record { of_network = n i; of_show = s i; of_round = r i }
