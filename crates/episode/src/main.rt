@@ -1,5 +1,7 @@
 // One episode, from a network's and a show's sheet to the feed: reads two files, judges both texts, joins them, opens a
 // round, carries out the orders of the command line on it and prints what it did and why.
+#![tactic(auto)]
+
 use acting::carry_out;
 use anyhow::anyhow;
 use horn::joined::Joined;

@@ -1,15 +1,14 @@
 -- The lowest broken ban.
 -- Assumes nothing.
-use Rattle.std.proofs.Common.{◌≡◌, ℕ, zero, suc, ◌<◌, Bool, true, false, ◌&&◌, ◌||◌, eqb, ltb, ◌⊎◌, List, [], ◌∷◌, Some, None, Option, sym, refl, ap, ◌∙◌, subst, inl, inr, ⊎_elim, arith}
-use Rattle.std.specs.List.{slice_get, AllByRecursion}
+use Rattle.std.proofs.Common.{◌≡◌, ℕ, zero, suc, ◌<◌, true, false, Some, None, Option, refl, ap, ◌∙◌, arith}
 use Rattle.std.proofs.ByRecursion.{All-weaker}
-use Rattle.std.proofs.lemmas.Bool.{and_parts, and_from, both_ways, cases_Bool, eqb-true, eq-eqb, ltb-true, ltb-false, lt-ltb, le-ltb}
+use Rattle.std.proofs.lemmas.Bool.{and_parts, and_from, both_ways}
 use Rattle.horn.specs.Sheets.{all_of, any_of, Clause, Sheet, Lawful, clause_at}
 use Rattle.horn.specs.Pebblings.{InForce, Broken}
-use Rattle.horn.specs.Levels.{in_force, first}
+use Rattle.horn.specs.Levels.{in_force}
 use Rattle.horn.specs.Bans.{no_outcome, breaks, lowest_broken, LowestBroken}
 use Rattle.horn.specs.Bans
-use Rattle.horn.proofs.Tests.{all_true, all_from, any_from, none_some, some_inj}
+use Rattle.horn.proofs.Tests.{all_true, all_from, any_from, none_some}
 use Rattle.horn.proofs.Explained.{First, first_is}
 use Rattle.horn.proofs.Entailment.{in_force_has, in_force_is, contradicted}
 

@@ -1,16 +1,16 @@
 -- The theorems about choices and pebblings.
 -- Assumes nothing.
-use Rattle.std.proofs.Common.{◌≡◌, ℕ, zero, suc, ◌<◌, ◌≤◌, Bool, true, false, cond, not, ◌&&◌, ◌||◌, ◌⊎◌, List, [], ◌∷◌, Some, None, Option, sym, refl, ap, ◌∙◌, subst, inl, inr, ⊎_elim, arith}
+use Rattle.std.proofs.Common.{◌≡◌, ℕ, suc, ◌≤◌, Bool, true, false, not, ◌&&◌, ◌||◌, ◌⊎◌, List, [], ◌∷◌, Some, None, Option, sym, refl, ap, ◌∙◌, inl, inr, ⊎_elim, arith}
 use Rattle.std.specs.List.{slice_get, AllByRecursion}
 use Rattle.std.proofs.ByRecursion.{All-weaker}
-use Rattle.std.proofs.lemmas.Bool.{both_ways, or_left, or_right, cases_Bool, not_from_false, not_from_true, or_from, or_parts, and_parts}
-use Rattle.horn.specs.Sheets.{all_of, any_of, Clause, Sheet, Lawful, Condition, Choice, gives, satisfies, Satisfies, holds_outcome, clause_at}
-use Rattle.horn.specs.Pebblings.{Pebbling, InForce, Broken, Shortest, lengths}
+use Rattle.std.proofs.lemmas.Bool.{both_ways, or_left, or_right, cases_Bool, or_from, or_parts}
+use Rattle.horn.specs.Sheets.{all_of, any_of, Clause, Sheet, Lawful, Choice, satisfies, Satisfies, holds_outcome}
+use Rattle.horn.specs.Pebblings.{Pebbling, InForce, Broken, lengths}
 use Rattle.horn.specs.Levels.{level, in_force, rank, explanation}
 use Rattle.horn.specs.Claims
-use Rattle.horn.proofs.Tests.{all_true, all_from, any_at, all_by_nth, all_nth}
+use Rattle.horn.proofs.Tests.{all_true, all_from, all_by_nth, all_nth}
 use Rattle.horn.proofs.Forced.{forced, none_lacked, at_clause}
-use Rattle.horn.proofs.Levels.{level_more, level_mono, level_condition, levels_stop, levels_hold, rank_below, rank_level, outcome_gives}
+use Rattle.horn.proofs.Levels.{level_more, level_mono, level_condition, levels_stop, levels_hold, rank_below, outcome_gives}
 use Rattle.horn.proofs.Explained.{explanation_pebbles}
 
 pub in_force_has : (s : Sheet) → Lawful s → (q : ℕ) → InForce s q → in_force s q ≡ true

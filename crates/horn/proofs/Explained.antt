@@ -1,14 +1,13 @@
 -- The chosen clauses of what a condition needs are a pebbling of it, as short as any.
 -- Assumes nothing.
-use Rattle.std.proofs.Common.{◌≡◌, ℕ, zero, suc, ◌+◌, ◌-◌, ◌<◌, ◌≤◌, max, Bool, true, false, cond, not, ◌&&◌, ◌||◌, eqb, ltb, ◌⊎◌, List, [], ◌∷◌, ◌++◌, map, length, get_or, Some, None, Option, sym, refl, ap, ◌∙◌, subst, inl, inr, ⊎_elim, arith}
+use Rattle.std.proofs.Common.{◌≡◌, ℕ, zero, suc, ◌-◌, ◌<◌, ◌≤◌, Bool, true, false, cond, ◌&&◌, ◌||◌, eqb, ltb, ◌⊎◌, List, [], ◌∷◌, ◌++◌, map, length, get_or, Some, Option, sym, refl, ap, ◌∙◌, subst, inl, inr, ⊎_elim, arith}
 use Rattle.std.specs.List.{slice_get, AllByRecursion}
 use Rattle.std.proofs.lemmas.List.{map_push, get_or_push, length_push, append_assoc, append-nil}
 use Rattle.std.proofs.ByRecursion.{All-weaker, All-push}
-use Rattle.std.proofs.lemmas.Bool.{and_parts, and_from, or_cases, or_left, or_right, or_from, both_ways, cases_lt, cases_Bool, eqb-true, eqb-false, eq-eqb, ne_eqb, lt-ltb, ltb-true, cond-true, cond-false}
+use Rattle.std.proofs.lemmas.Bool.{and_parts, and_from, or_cases, or_left, or_right, both_ways, cases_lt, cases_Bool, eqb-true, eqb-false, eq-eqb, lt-ltb, ltb-true, cond-true, cond-false}
 use Rattle.horn.specs.Sheets.{all_of, any_of, Clause, Sheet, Lawful, Condition, gives, is, clause_at, outcome_of, body_of}
-use Rattle.horn.specs.Pebblings.{step_gives, given, Allowed, Steps, Pebbling, InForce, longest, lengths, lengths_from, lengths_after}
+use Rattle.horn.specs.Pebblings.{step_gives, given, Allowed, Steps, Pebbling, longest, lengths, lengths_after}
 use Rattle.horn.specs.Levels.{level, least, rank, first, explains, chosen, chosen_body, reaches, needed, listed, ordered, explanation, Before, Sorted}
-use Rattle.horn.specs.Claims
 use Rattle.horn.proofs.Tests.{all_true, all_from, any_at, any_from, any_append, all_nth, all_by_nth, none_some}
 use Rattle.horn.proofs.Forced.{given_push, steps_push}
 use Rattle.horn.proofs.Levels.{level_clause, level_mono, level_at, level_condition, gives_outcome, rank_below, rank_level, rank_pos, rank_top, rank_in, lengths_push, lengths_here, lengths_other, all_both}

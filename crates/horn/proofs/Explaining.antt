@@ -1,18 +1,18 @@
 -- The explanation of a condition in force, and that it has no other.
 -- Assumes nothing.
-use Rattle.std.proofs.Common.{◌≡◌, ℕ, zero, suc, ◌<◌, ◌≤◌, Bool, true, false, ◌&&◌, ◌||◌, eqb, ltb, ◌⊎◌, ◌↔◌, List, [], ◌∷◌, map, Some, None, Option, sym, refl, ap, ◌∙◌, subst, inl, inr, ⊎_elim, arith}
+use Rattle.std.proofs.Common.{◌≡◌, ℕ, zero, suc, ◌<◌, ◌≤◌, true, false, eqb, ltb, ◌⊎◌, ◌↔◌, List, [], ◌∷◌, map, Some, Option, sym, refl, ap, ◌∙◌, subst, inl, inr, ⊎_elim, arith}
 use Rattle.std.specs.List.{slice_get, AllZip, AllByRecursion}
 use Rattle.std.proofs.ByRecursion.{All-weaker}
 use Rattle.std.proofs.lemmas.Bool.{and_parts, and_from, or_cases, or_left, or_right, both_ways, cases_order, eqb-true, eq-eqb, lt-ltb, ltb-true}
 use Rattle.horn.specs.Sheets.{all_of, any_of, Clause, Sheet, Lawful, gives, clause_at, body_of}
-use Rattle.horn.specs.Pebblings.{Pebbling, InForce, Shortest, lengths}
-use Rattle.horn.specs.Levels.{level, in_force, rank, explains, chosen, chosen_body, reaches, needed, ordered, explanation, Before, Sorted}
+use Rattle.horn.specs.Pebblings.{Shortest}
+use Rattle.horn.specs.Levels.{in_force, rank, explains, chosen, chosen_body, reaches, needed, ordered, explanation, Before, Sorted}
 use Rattle.horn.specs.Explanations.{Shorter, Supports, Chosen, Needs, itself, through, Precedes, InOrder, Explanation}
 use Rattle.horn.specs.Explanations
-use Rattle.horn.proofs.Tests.{all_true, all_from, any_at, any_from, all_nth, some_inj, none_some}
-use Rattle.horn.proofs.Levels.{all_both, rank_below, rank_top, level_at, levels_stop, level_condition, gives_outcome, outcome_gives}
+use Rattle.horn.proofs.Tests.{all_true, all_from, any_at, all_nth, none_some}
+use Rattle.horn.proofs.Levels.{all_both, level_at, levels_stop, level_condition, gives_outcome, outcome_gives}
 use Rattle.horn.proofs.Explained.{First, first_is, explains_some, mem, all_by_mem, Good, good_ordered, ordered_holds, ordered_has, reaches_self, reaches_in_force, needed_body, body_in_force}
-use Rattle.horn.proofs.Entailment.{in_force_has, in_force_is, ranked, rank_least}
+use Rattle.horn.proofs.Entailment.{in_force_has, in_force_is, ranked}
 
 shortest_rank : (s : Sheet) → Lawful s → (p d : ℕ) → Shortest s p d → d ≡ rank s p
 shortest_rank s w p d h =

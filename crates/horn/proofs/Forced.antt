@@ -1,13 +1,13 @@
 -- Lists of steps, and what every choice that satisfies a sheet holds.
 -- Assumes nothing.
-use Rattle.std.proofs.Common.{◌≡◌, ℕ, zero, suc, ◌+◌, ◌-◌, ◌<◌, ◌≤◌, Bool, true, false, cond, not, ◌&&◌, ◌||◌, eqb, ◌⊎◌, List, [], ◌∷◌, ◌++◌, length, get_or, take, Some, None, Option, sym, refl, ap, ◌∙◌, subst, inl, inr, ⊎_elim, arith, take_all, take-suc}
+use Rattle.std.proofs.Common.{◌≡◌, ℕ, zero, suc, ◌-◌, ◌<◌, ◌≤◌, Bool, true, false, not, ◌||◌, eqb, List, [], ◌∷◌, ◌++◌, length, get_or, take, Some, Option, sym, refl, ap, ◌∙◌, subst, ⊎_elim, arith, take_all, take-suc}
 use lib.Seq.{take-append-le, take-append_seam}
 use Rattle.std.specs.List.{AllByRecursion}
 use Rattle.std.proofs.lemmas.List.{get_or_append_left, get_or_push, length_push}
 use Rattle.std.proofs.ByRecursion.{All-weaker}
-use Rattle.std.proofs.lemmas.Bool.{or_cases, both_ways, cases_lt, eqb-true, not_from_true}
-use Rattle.horn.specs.Sheets.{all_of, any_of, Clause, Sheet, Choice, holds_outcome, satisfies, Keeps, Satisfies, clause_at, outcome_of, body_of, is}
-use Rattle.horn.specs.Pebblings.{step_gives, given, Allowed, Steps, Pebbling, InForce}
+use Rattle.std.proofs.lemmas.Bool.{or_cases, both_ways, cases_lt, eqb-true}
+use Rattle.horn.specs.Sheets.{any_of, Clause, Sheet, holds_outcome, satisfies, Keeps, clause_at, outcome_of, is}
+use Rattle.horn.specs.Pebblings.{step_gives, given, Allowed, Steps, Pebbling}
 use Rattle.horn.specs.Claims
 use Rattle.horn.proofs.Tests.{all_nth, any_append, any_from}
 

@@ -6,7 +6,7 @@ use Rattle.std.proofs.ByRecursion.{All-weaker}
 use Rattle.std.proofs.lemmas.Bool.{both_ways}
 use Rattle.horn.specs.Sheets.{all_of, Clause, Sheet, Lawful, clause_at}
 use Rattle.horn.specs.Pebblings.{InForce, Broken}
-use Rattle.horn.specs.Levels.{level, in_force, rank}
+use Rattle.horn.specs.Levels.{level, rank}
 use Rattle.horn.specs.Graph.{Node, truth, falsity, condition, Edge, of_fact, of_rule, of_ban, Member, Sources, Pebbled, start, move, AllPebbled, none, more, PebbledFromTrue}
 use Rattle.horn.specs.Graph
 use Rattle.horn.proofs.Tests.{all_true, all_from, all_by_nth, all_nth, some_inj, none_some}

@@ -1,12 +1,12 @@
 -- What stays when clauses are added.
 -- Assumes nothing.
-use Rattle.std.proofs.Common.{◌≡◌, ℕ, zero, suc, ◌-◌, ◌<◌, ◌≤◌, Bool, true, false, cond, ◌&&◌, ◌||◌, List, [], ◌∷◌, ◌++◌, length, get_or, Some, None, Option, sym, refl, ap, ◌∙◌, arith}
+use Rattle.std.proofs.Common.{◌≡◌, ℕ, zero, suc, ◌-◌, Bool, true, false, cond, ◌&&◌, ◌||◌, List, [], ◌∷◌, ◌++◌, length, get_or, Some, None, Option, sym, refl, ap, ◌∙◌, arith}
 use mathlib.Core.Path.{fun_ext}
 use Rattle.std.specs.List.{slice_get, AllByRecursion}
 use Rattle.std.proofs.ByRecursion.{All-weaker}
 use Rattle.std.proofs.lemmas.Bool.{both_ways, or_from}
 use Rattle.horn.specs.Sheets.{all_of, any_of, Clause, Sheet, gives, is, clause_at, outcome_of, body_of}
-use Rattle.horn.specs.Pebblings.{step_gives, given, Allowed, Steps, Pebbling, longest, lengths, lengths_after}
+use Rattle.horn.specs.Pebblings.{step_gives, given, Allowed, Steps, longest, lengths, lengths_after}
 use Rattle.horn.specs.Levels.{level}
 use Rattle.horn.specs.Claims
 use Rattle.horn.specs.Claims.{added}

@@ -1,10 +1,9 @@
 -- The tests for lawful and satisfiable sheets.
 -- Assumes nothing.
-use Rattle.std.proofs.Common.{◌≡◌, ℕ, ◌≤◌, Bool, true, false, not, ◌&&◌, eqb, leb, ◌⊎◌, List, [], ◌∷◌, Some, None, Option, sym, refl, ap, ◌∙◌, subst, inl, inr, ⊎_elim}
-use Rattle.std.specs.List.{AllByRecursion}
+use Rattle.std.proofs.Common.{◌≡◌, ℕ, Bool, true, false, not, ◌&&◌, eqb, leb, List, [], ◌∷◌, Some, None, Option, sym, refl, ap, subst, ⊎_elim}
 use Rattle.std.proofs.ByRecursion.{All-weaker}
 use Rattle.std.proofs.lemmas.Bool.{and_parts, and_from, both_ways, leb-true, le-leb, not-true, not_from_false}
-use Rattle.horn.specs.Sheets.{Clause, Sheet, Choice, Lawful, LawfulClause, Condition, Distinct, Satisfies, satisfies, all_of, any_of}
+use Rattle.horn.specs.Sheets.{Clause, Sheet, LawfulClause, Condition, Distinct, satisfies, all_of, any_of}
 use Rattle.horn.specs.Pebblings.{Broken}
 use Rattle.horn.specs.Levels.{in_force}
 use Rattle.horn.specs.Lawfulness.{is_condition, is_outcome, distinct, is_something, lawful_clause, lawful, satisfiable}

@@ -1,12 +1,12 @@
 -- The levels of a sheet: they grow, stop at `top`, and hold what has a pebbling.
 -- Assumes nothing.
-use Rattle.std.proofs.Common.{◌≡◌, ℕ, zero, suc, ◌+◌, ◌-◌, ◌<◌, ◌≤◌, max, Bool, true, false, cond, not, ◌&&◌, ◌||◌, eqb, ◌⊎◌, List, [], ◌∷◌, ◌++◌, Some, None, Option, sym, refl, ap, ◌∙◌, subst, inl, inr, ⊎_elim, arith}
+use Rattle.std.proofs.Common.{◌≡◌, ℕ, zero, suc, ◌<◌, ◌≤◌, max, Bool, true, false, cond, ◌&&◌, ◌||◌, ◌⊎◌, List, [], ◌∷◌, ◌++◌, Some, None, Option, sym, refl, ap, ◌∙◌, subst, inl, inr, ⊎_elim, arith}
 use mathlib.Core.Path.{fun_ext}
 use Rattle.std.specs.List.{slice_get, AllByRecursion}
 use Rattle.std.proofs.ByRecursion.{All-weaker}
 use Rattle.std.proofs.lemmas.Bool.{and_parts, and_from, or_cases, both_ways, cases_lt, cases_Bool, or_from, eqb-true, eq-eqb, cond-true, cond-false}
 use Rattle.horn.specs.Sheets.{all_of, any_of, Clause, Sheet, Lawful, Condition, gives, is, clause_at, outcome_of, body_of}
-use Rattle.horn.specs.Pebblings.{step_gives, given, Allowed, Steps, Pebbling, InForce, longest, lengths, lengths_from, lengths_after}
+use Rattle.horn.specs.Pebblings.{step_gives, given, Allowed, Steps, longest, lengths, lengths_from, lengths_after}
 use Rattle.horn.specs.Levels.{level, how_many, least, rank}
 use Rattle.horn.specs.Claims
 use Rattle.horn.proofs.Tests.{all_true, all_from, any_at, any_from, all_nth, none_some}

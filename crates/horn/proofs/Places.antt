@@ -1,7 +1,7 @@
 -- The clause with a number, in parts of a list and in two lists joined.
-use Rattle.std.proofs.Common.{◌≡◌, ℕ, zero, suc, ◌+◌, ◌-◌, ◌<◌, ◌≤◌, List, [], ◌∷◌, ◌++◌, length, take, Some, None, Option, sym, refl, ap, ◌∙◌, arith}
+use Rattle.std.proofs.Common.{◌≡◌, ℕ, zero, suc, ◌+◌, ◌-◌, ◌<◌, ◌≤◌, List, [], ◌∷◌, ◌++◌, length, take, sym, refl, ap, ◌∙◌, arith}
 use Rattle.std.specs.List.{slice_get}
-use Rattle.horn.specs.Sheets.{Sheet, Clause, clause_at}
+use Rattle.horn.specs.Sheets.{Sheet, clause_at}
 use Rattle.horn.specs.Joining.{joined}
 
 module _ {X : Type 0} where

@@ -1,5 +1,5 @@
 -- Worked examples, by computation.
-use Rattle.std.specs.Prelude.{◌≡◌, ℕ, zero, suc, Bool, true, false, List, [], ◌∷◌, ◌++◌, Some, None}
+use Rattle.std.specs.Prelude.{◌≡◌, ℕ, List, [], ◌∷◌, ◌++◌, Some, None}
 use Rattle.horn.specs.Sheets.{Sheet, Clause}
 use Rattle.horn.specs.Bans.{lowest_broken, discharged}
 use Rattle.horn.specs.Levels.{in_force, rank, explanation, listed}

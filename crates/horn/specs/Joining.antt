@@ -1,9 +1,8 @@
 -- Two sheets joined.
-use Rattle.std.specs.Prelude.{◌≡◌, ℕ, ◌≤◌, min, max, List, ◌++◌, length, take, Some}
+use Rattle.std.specs.Prelude.{◌≤◌, max, ◌++◌, take}
 use Rattle.std.proofs.Common.{arith, length-take}
-use Rattle.std.specs.List.{AllByRecursion}
 use Rattle.std.proofs.ByRecursion.{All-append, All-take, All-weaker}
-use Rattle.horn.specs.Sheets.{Sheet, Clause, Condition, Lawful, LawfulClause}
+use Rattle.horn.specs.Sheets.{Sheet, Clause, Condition, LawfulClause}
 use Rattle.horn.specs.Sources.{LawfulSource}
 
 -- The first one's clauses, then the second's, cut after 65,535, and the greater number of conditions.

@@ -1,6 +1,6 @@
 -- Pebblings: derivations of a condition, one clause a step, and their lengths.
 -- Assumes nothing.
-use Rattle.std.specs.Prelude.{◌≡◌, ℕ, zero, suc, ◌+◌, ◌-◌, ◌<◌, ◌≤◌, max, Bool, true, false, cond, List, [], ◌∷◌, length, take, Some, None, Option, slice_index}
+use Rattle.std.specs.Prelude.{◌≡◌, ℕ, suc, ◌-◌, ◌<◌, ◌≤◌, max, Bool, true, false, cond, List, [], ◌∷◌, length, take, Some, None, slice_index}
 use Rattle.std.specs.List.{AllByRecursion}
 use Rattle.horn.specs.Sheets.{any_of, Clause, Sheet, is, clause_at, outcome_of, body_of}
 

@@ -1,4 +1,6 @@
 // The console program: standard input, no more of it than the console reads, to standard output.
+#![tactic(auto)]
+
 use console::{LIMIT, serve};
 use std::io;
 use std::io::{Read, Write};

@@ -6,7 +6,7 @@ use Rattle.std.proofs.lemmas.List.{take_more, take_all}
 use Rattle.std.proofs.ByRecursion.{All-get_or}
 use Rattle.std.proofs.lemmas.Option.{slice_get-get_or}
 use Rattle.horn.specs.Sheets.{Sheet, Clause, Condition, Lawful, LawfulClause, clause_at, outcome_number, outcome_size, literals}
-use Rattle.horn.specs.Sources.{at_place, place_of, outcome_at, size_at}
+use Rattle.horn.specs.Sources.{place_of, outcome_at, size_at}
 use Rattle.horn.proofs.Tests.{some_inj, none_some}
 use Rattle.round.specs.Rows.{kept_outcome}
 use Rattle.round.specs.Held.{body_at}

@@ -1,14 +1,14 @@
 -- The answers of opening, ask and roll, in choices.
 use Rattle.std.proofs.Common.{◌≡◌, ℕ, ◌≤◌, Bool, true, false, cond, ◌↔◌, List, [], ◌∷◌, sym, refl, ap, ◌∙◌, subst, inl, inr, arith}
 use Rattle.std.proofs.lemmas.Bool.{both_ways}
-use Rattle.horn.specs.Sheets.{Sheet, Choice, Lawful, Satisfies, IsTooLarge}
+use Rattle.horn.specs.Sheets.{Sheet, Lawful, IsTooLarge}
 use Rattle.horn.specs.Levels.{in_force}
-use Rattle.horn.specs.Bans.{lowest_broken, LowestBroken}
+use Rattle.horn.specs.Bans.{LowestBroken}
 use Rattle.horn.specs.Lawfulness.{satisfiable}
 use Rattle.horn.proofs.Bans.{lowest_found}
 use Rattle.horn.proofs.Entailment.{entailed, in_force_has, in_force_is}
 use Rattle.horn.proofs.Lawfulness.{satisfiable_tested}
-use Rattle.round.specs.Answers.{Answer, ok, refused, Opens, Asks, Rolls, roll_words}
+use Rattle.round.specs.Answers.{Answer, ok, refused, Opens, Asks, Rolls}
 use Rattle.round.specs.Exact.{Unsatisfiable, Entails, Contradicts, bit_of, OpeningExact, ReportsExact}
 use Rattle.round.proofs.Choosing.{ok_refused}
 use Rattle.round.proofs.Words.{rolled}

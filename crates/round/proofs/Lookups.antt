@@ -1,13 +1,13 @@
 -- The clauses of rows, by their numbers.
-use Rattle.std.proofs.Common.{◌≡◌, ℕ, zero, suc, ◌+◌, ◌-◌, ◌<◌, ◌≤◌, List, [], ◌∷◌, map, length, get_or, take, drop, Some, None, Option, sym, refl, ap, ◌∙◌, arith, length-drop, length-take}
-use Rattle.std.specs.List.{between, range_with_len, slice_get}
+use Rattle.std.proofs.Common.{◌≡◌, ℕ, zero, suc, ◌+◌, ◌-◌, ◌<◌, ◌≤◌, List, length, get_or, drop, Some, None, refl, ap, ◌∙◌, arith, length-drop, length-take}
+use Rattle.std.specs.List.{between, slice_get}
 use Rattle.std.proofs.lemmas.List.{get_or-take, get_or-drop}
 use Rattle.std.proofs.lemmas.List.FromFn.{length-map-range_with_len}
 use Rattle.std.proofs.lemmas.Option.{slice_get-get_or, slice_get_past}
-use Rattle.horn.specs.Sheets.{Sheet, Clause, clause_at, outcome_number}
+use Rattle.horn.specs.Sheets.{Sheet, clause_at, outcome_number}
 use Rattle.horn.specs.Sources.{at_place}
 use Rattle.round.proofs.Meaning.{clause_here}
-use Rattle.round.specs.Rows.{at, Rows, kept_outcome, clause_in, clauses_in, sheet_in}
+use Rattle.round.specs.Rows.{Rows, kept_outcome, clause_in, clauses_in, sheet_in}
 
 pub clause_at_nth : (s : Sheet) (i : ℕ) → 1 ≤ i → clause_at s i ≡ slice_get s.clauses (i - 1)
 clause_at_nth s zero h = absurd (omega arith)

@@ -9,7 +9,7 @@ use Rattle.horn.specs.Sheets.{Sheet, Clause, Lawful, all_of}
 use Rattle.horn.specs.Levels.{in_force, least}
 use Rattle.horn.specs.Bans.{places}
 use Rattle.horn.specs.Claims.{added}
-use Rattle.horn.specs.Lawfulness.{lawful, satisfiable}
+use Rattle.horn.specs.Lawfulness.{satisfiable}
 use Rattle.horn.proofs.Tests.{all_true, all_from}
 use Rattle.horn.proofs.Growing.{bans_add_nothing}
 use Rattle.horn.proofs.Lawfulness.{lawful_tested}

@@ -1,6 +1,5 @@
 -- A set as bits in words, and its size.
 use Rattle.std.proofs.Common.{◌≡◌, ℕ, zero, suc, ◌+◌, ◌-◌, ◌*◌, ◌/◌, ◌%◌, ◌^◌, ◌<◌, ◌≤◌, Bool, true, false, cond, ◌&&◌, leb, List, [], ◌∷◌, ◌++◌, length, get_or, drop, set, sym, refl, ap, ◌∙◌, ap₂, append_assoc, pow-suc, add-one, arith, length-append, drop-cons, pow_mono}
-use native.Mathlib.Decide.{dec_le}
 use lib.Count.{ones, ones_step}
 use mir.Val.{bool_byte}
 use lib.Seq.{set_at}

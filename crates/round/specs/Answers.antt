@@ -1,6 +1,6 @@
 -- What the calls on a round answer: refused with this if .., then with that if .., else this answer.
 -- Assumes nothing.
-use Rattle.std.specs.Prelude.{◌≡◌, ℕ, zero, suc, ◌+◌, ◌*◌, ◌/◌, ◌^◌, ◌<◌, Bool, true, false, cond, ◌&&◌, ◌⊎◌, List, [], ◌∷◌, ◌++◌, length, nat_le}
+use Rattle.std.specs.Prelude.{◌≡◌, ℕ, zero, suc, ◌+◌, ◌*◌, ◌/◌, ◌^◌, ◌<◌, Bool, false, cond, ◌&&◌, ◌⊎◌, List, [], ◌∷◌, ◌++◌, length, nat_le}
 use Rattle.horn.specs.Sheets.{Sheet, IsTooLarge, empty_sheet}
 use Rattle.horn.specs.Levels.{in_force, rank, explanation, how_many}
 use Rattle.horn.specs.Bans.{lowest_broken, discharged}

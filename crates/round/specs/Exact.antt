@@ -1,5 +1,5 @@
 -- What the answers of a round say of choices.
-use Rattle.std.specs.Prelude.{◌≡◌, ℕ, ◌-◌, ◌/◌, ◌%◌, ◌^◌, ◌≤◌, Bool, true, cond, ◌↔◌, List, [], ◌∷◌, slice_index}
+use Rattle.std.specs.Prelude.{◌≡◌, ℕ, ◌-◌, ◌/◌, ◌%◌, ◌^◌, ◌≤◌, true, ◌↔◌, List, [], ◌∷◌, slice_index}
 use Rattle.horn.specs.Sheets.{Sheet, Choice, Lawful, Satisfies, IsTooLarge}
 use Rattle.horn.specs.Lawfulness.{satisfiable}
 use Rattle.horn.specs.Bans.{LowestBroken}

@@ -1,7 +1,7 @@
 -- What the tables of a round hold.
 use Rattle.std.specs.Prelude.{◌≡◌, ℕ, ◌+◌, ◌≤◌, List, [], ◌∷◌, ◌++◌, length, take, vec_items, vec_len, vec_capacity, Option}
 use Rattle.std.specs.Option.{option_map}
-use Rattle.horn.specs.Sheets.{Sheet, Clause, clause_at, empty_sheet, literals}
+use Rattle.horn.specs.Sheets.{Sheet, clause_at, empty_sheet, literals}
 use Rattle.round.specs.Rows.{at, Rows, rows, sheet_in, kept_outcome, Filled}
 use Rattle.round.specs.Writing.{Writing, unfinished}
 use Rattle.round.specs.declared.tables.Tables.{Tables}

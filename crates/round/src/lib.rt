@@ -1,4 +1,6 @@
 // A round: the clauses of a sheet with the rank of every condition, always current.
+#![tactic(auto)]
+
 mod calls;
 mod explaining;
 mod filing;

@@ -1,7 +1,6 @@
 -- Judging has one answer.
 use Rattle.std.proofs.Common.{◌≡◌, ℕ, ◌≤◌, cond, eqb, List, length, Some, None, Ok, Err, Option, sym, refl, ap, ◌∙◌, ⊎_elim, arith}
 use Rattle.horn.specs.Sheets.{top_of, literals}
-use Rattle.text.specs.Grammar.{clauses}
 use Rattle.text.proofs.Meaning.{one_meaning}
 use Rattle.text.specs.declared.verdict.Counts.{Counts}
 use Rattle.text.specs.declared.verdict.Fault.{Fault}

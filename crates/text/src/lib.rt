@@ -1,4 +1,6 @@
 // Texts of Horn sheets: judging a text, and reading its clauses in place.
+#![tactic(auto)]
+
 mod in_place;
 mod judging;
 mod limits;

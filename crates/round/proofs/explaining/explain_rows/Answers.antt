@@ -1,4 +1,4 @@
-use Rattle.std.proofs.Common.{◌≡◌, ℕ, ◌<◌, true, List, ◌++◌, length, drop, sym, refl, ap, ◌∙◌, arith}
+use Rattle.std.proofs.Common.{◌≡◌, ℕ, ◌<◌, true, List, ◌++◌, length, drop, refl, ap, ◌∙◌, arith}
 use Rattle.horn.specs.Sheets.{Sheet}
 use Rattle.horn.specs.Levels.{in_force, rank, explanation}
 use Rattle.round.specs.Rows.{at, rows_of, sheet_in}

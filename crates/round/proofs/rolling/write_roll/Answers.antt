@@ -1,5 +1,4 @@
-use Rattle.std.proofs.Common.{◌≡◌, ℕ, ◌+◌, ◌*◌, ◌<◌, ◌≤◌, Bool, List, ◌++◌, length, drop, sym, refl, ap, ◌∙◌, arith}
-use Rattle.horn.specs.Levels.{how_many}
+use Rattle.std.proofs.Common.{◌≡◌, ℕ, ◌+◌, ◌*◌, ◌<◌, ◌≤◌, Bool, ◌++◌, length, drop, ap, ◌∙◌, arith}
 use Rattle.round.specs.Answers.{words_of, words_for, up_to}
 use Rattle.round.specs.Ranks.{ranked}
 use Rattle.horn.proofs.Levels.{how_many_le}

@@ -1,7 +1,6 @@
 use Rattle.std.proofs.Common.{length, ap, ◌∙◌}
 use Rattle.std.specs.Option.{option_map}
-use Rattle.horn.specs.Sheets.{Clause, outcome_number}
-use Rattle.horn.specs.Sources.{place_of}
+use Rattle.horn.specs.Sheets.{Clause}
 use Rattle.horn.proofs.Places.{in_first, in_second}
 use Rattle.horn.proofs.joined.JoinedSource.body_len.Goals as goal
 

@@ -1,4 +1,4 @@
-use Rattle.std.proofs.Common.{◌++◌, arith, length-append, length-take}
+use Rattle.std.proofs.Common.{arith, length-append, length-take}
 use Rattle.horn.proofs.joined.JoinedSource.clauses.Goals as goal
 
 pub returns : goal.returns

@@ -1,4 +1,4 @@
-use Rattle.std.proofs.Common.{◌≡◌, ℕ, ◌+◌, ◌≤◌, List, [], ◌∷◌, ◌++◌, vec_items, sym, refl, ap, ◌∙◌, subst, arith}
+use Rattle.std.proofs.Common.{◌≡◌, ℕ, List, [], ◌∷◌, ◌++◌, vec_items, sym, refl, ap, ◌∙◌, subst, arith}
 use Rattle.horn.specs.Sheets.{Clause}
 use Rattle.round.specs.Rows.{rows, clauses_in}
 use Rattle.round.specs.Writing.{Writing, unfinished}

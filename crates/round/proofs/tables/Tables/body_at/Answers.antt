@@ -1,4 +1,4 @@
-use Rattle.std.proofs.Common.{◌≡◌, ℕ, ◌+◌, ◌-◌, ◌<◌, ◌≤◌, length, get_or, Some, vec_items, Option, sym, ap, ◌∙◌, arith}
+use Rattle.std.proofs.Common.{◌≡◌, ◌+◌, ◌-◌, ◌<◌, ◌≤◌, length, get_or, Some, vec_items, Option, sym, ap, ◌∙◌, arith}
 use Rattle.std.specs.List.{between}
 use Rattle.horn.specs.Sheets.{Clause}
 use Rattle.horn.specs.Sources.{place_of}

@@ -1,4 +1,4 @@
-use Rattle.std.proofs.Common.{◌≡◌, ℕ, ◌+◌, ◌-◌, ◌<◌, ◌≤◌, length, get_or, Some, vec_items, sym, ap, ◌∙◌, ap₂, arith}
+use Rattle.std.proofs.Common.{◌≡◌, ◌+◌, ◌-◌, ◌<◌, ◌≤◌, length, get_or, Some, vec_items, sym, ap, ◌∙◌, ap₂, arith}
 use Rattle.std.specs.Option.{option_map}
 use Rattle.horn.specs.Sheets.{Clause}
 use Rattle.round.specs.Held.{held_rows}

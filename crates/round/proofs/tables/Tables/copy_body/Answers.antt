@@ -1,4 +1,4 @@
-use Rattle.std.proofs.Common.{◌≡◌, ℕ, ◌+◌, ◌≤◌, sym, refl, ap, ◌∙◌, arith}
+use Rattle.std.proofs.Common.{◌∙◌, arith}
 use Rattle.horn.specs.Sheets.{clause_at}
 use Rattle.round.specs.Writing.{unfinished}
 use Rattle.round.specs.Held.{held_rows}

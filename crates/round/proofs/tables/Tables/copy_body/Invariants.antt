@@ -1,4 +1,4 @@
-use Rattle.std.proofs.Common.{◌≡◌, ℕ, ◌+◌, ◌≤◌, List, take, Some, vec_len}
+use Rattle.std.proofs.Common.{◌≡◌, ◌+◌, take, Some, vec_len}
 use Rattle.std.specs.Option.{option_map}
 use Rattle.round.specs.Writing.{Writing, unfinished}
 use Rattle.round.specs.Held.{held_rows, held_sheet, Roomy, body_at}

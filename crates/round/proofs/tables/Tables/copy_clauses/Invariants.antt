@@ -1,4 +1,4 @@
-use Rattle.std.proofs.Common.{◌≡◌, ℕ, ◌+◌, ◌≤◌, List, [], take, vec_len}
+use Rattle.std.proofs.Common.{◌≡◌, ◌≤◌, [], take, vec_len}
 use Rattle.horn.specs.Sheets.{literals}
 use Rattle.round.specs.Writing.{Writing, unfinished}
 use Rattle.round.specs.Held.{held_rows, held_sheet, Roomy}

@@ -1,4 +1,4 @@
-use Rattle.std.proofs.Common.{◌≡◌, ℕ, ◌+◌, ◌≤◌, List, [], ◌∷◌, ◌++◌, length, vec_items, sym, refl, ap, ◌∙◌, ap₂, subst₂, arith}
+use Rattle.std.proofs.Common.{◌≡◌, ℕ, List, [], ◌∷◌, ◌++◌, length, vec_items, sym, refl, ap, ◌∙◌, ap₂, subst₂, arith}
 use Rattle.round.specs.Rows.{rows, clauses_in}
 use Rattle.round.specs.Writing.{Writing, unfinished}
 use Rattle.round.proofs.Growing.{writing_end, clauses_end, body_end}
