@@ -1,4 +1,4 @@
--- A scan of the clauses by a table of ranks: the lowest broken ban, and the places whose condition is in force.
+-- A scan of the clauses by a table of ranks: the lowest broken ban, and the discharged places.
 use Rattle.std.proofs.Common.{◌≡◌, ℕ, zero, suc, ◌+◌, ◌-◌, ◌<◌, ◌≤◌, Bool, true, false, cond, not, ◌&&◌, List, [], ◌∷◌, ◌++◌, map, length, take, drop, Some, None, sym, refl, ap, ◌∙◌, arith}
 use Rattle.std.specs.List.{range_with_len, AllByRecursion}
 use Rattle.std.proofs.ByRecursion.{All-weaker}
@@ -7,7 +7,7 @@ use Rattle.std.proofs.lemmas.Bool.{cases_eq, cases_Bool, and_parts, and_from, or
 use Rattle.horn.specs.Sheets.{Sheet, Clause, Condition, Lawful, LawfulClause, all_of, any_of, satisfies, holds_outcome, clause_at}
 use Rattle.horn.specs.Pebblings.{InForce, Broken}
 use Rattle.horn.specs.Levels.{in_force, first}
-use Rattle.horn.specs.Bans.{no_outcome, breaks, tally, places}
+use Rattle.horn.specs.Bans.{no_outcome, breaks, tally, places, discharged}
 use Rattle.horn.specs.Lawfulness.{satisfiable}
 use Rattle.horn.proofs.Tests.{none_some, all_true, all_from, all_nth}
 use Rattle.horn.proofs.Forced.{none_lacked}
@@ -130,6 +130,15 @@ places_from f t w c (suc k) e =
     let whole : tally f (take (b - a) (drop a t.places) ++ drop (b - a) (drop a t.places)) ≡ tally f (drop a t.places) =
     ap (tally f) (take-append-drop (b - a) (drop a t.places)) in
     omega (arith, ih, cut, whole, tally_append f (take (b - a) (drop a t.places)) (drop (b - a) (drop a t.places)))
+
+-- the places whose condition has a rank are the discharged ones
+pub discharged_is : (t : Rows) → Filled t → (top : ℕ) (table : List ℕ) → Lawful (sheet_in top t) → Ranks (sheet_in top t) table
+    → tally (ranked table) t.places ≡ discharged (sheet_in top t)
+discharged_is t w top table lawful r =
+    let s : Sheet = sheet_in top t in
+    sym (sym (places_agree s (ranked table) (in_force s) (same t top table lawful r) (clauses_in t) lawful)
+    ∙ places_from (ranked table) t w 0 (length t.outs) (omega arith)
+    ∙ ap (λ (x : ℕ). tally (ranked table) (drop x t.places)) w.begins)
 
 -- Counted over the places or over the bodies, by the table's ranks or by what is in force, among the conditions that pass another test.
 pub places_ranked : (t : Rows) → Filled t → (top : ℕ) (table : List ℕ) → Lawful (sheet_in top t) → Ranks (sheet_in top t) table → (g : ℕ → Bool)

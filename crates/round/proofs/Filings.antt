@@ -44,7 +44,7 @@ pub pushed : (s : Sheet) (fs : List Filing) (f : Filing) → with_filings s (fs 
 pushed s fs f = ap {B = Sheet} (λ (cs : List Clause). record { top = s.top; clauses = cs }) (ap (λ (cs : List Clause). s.clauses ++ cs) (map_push clause_of fs f) ∙ sym (append_assoc s.clauses (map clause_of fs) (clause_of f ∷ [])))
 
 -- without filings it is the sheet
-pub unfiled : (s : Sheet) → with_filings s [] ≡ s
+unfiled : (s : Sheet) → with_filings s [] ≡ s
 unfiled s = ap {B = Sheet} (λ (cs : List Clause). record { top = s.top; clauses = cs }) (append-nil s.clauses)
 
 -- lawful clauses are lawful on every sheet with the same conditions

@@ -16,6 +16,7 @@ use Rattle.round.specs.Answers.{Opens, ok}
 use Rattle.round.specs.Calls.{nothing}
 use Rattle.round.specs.Runs.{Position}
 use Rattle.round.specs.Good.{Usable, Stocked, Kept, Good, Unmoved, RankedAnew, state_sheet, is_filing, filing_of, opened_sheet, state_standing, state_position}
+use Rattle.round.specs.declared.tables.Tables.{Tables}
 use Rattle.round.specs.declared.state.State.{State}
 use Rattle.round.proofs.Growing.{filled_writing}
 use Rattle.round.proofs.Lookups.{nth_between, length_clauses}
@@ -67,16 +68,6 @@ zeros_at zero p = refl
 zeros_at (suc n) zero = refl
 zeros_at (suc n) (suc p) = zeros_at n p
 
-and_true_right : (b : Bool) → (b && true) ≡ b
-and_true_right true = refl
-and_true_right false = refl
-
--- With no ranks before, the places that come into force are all that are.
-pub newly_all : (s : Sheet) (rank : List ℕ) (n : ℕ) → rank ≡ replicate n 0 → places (λ p. in_force s p && not (ranked rank p)) s.clauses ≡ discharged s
-newly_all s rank n z =
-    let none : (p : ℕ) → at rank p ≡ 0 = λ p. ap (λ (xs : List ℕ). at xs p) z ∙ zeros_at n p in
-    ap (λ (f : ℕ → Bool). places f s.clauses) (λ i p. (ap (λ (x : ℕ). in_force s p && not (ltb 0 x)) (none p) ∙ and_true_right (in_force s p)) i)
-
 -- Where all clauses are those that were opened and no mark is set, nothing stands.
 module _ (st : State) (whole : st.opened ≡ vec_len st.tables.outcomes) (bare : vec_items st.marks ≡ []) where
   past_clauses : length (state_sheet st).clauses ≤ st.opened
@@ -110,7 +101,7 @@ module _ (st : State) (whole : st.opened ≡ vec_len st.tables.outcomes) (bare :
 
 -- an empty round is good
 pub good_empty : (st : State) → Emptied st.tables → st.opened ≡ 0 → vec_items st.marks ≡ [] → vec_items st.rank ≡ replicate 1001 0 → Usable st
-    → Good st × (opened_sheet st ≡ empty_sheet) × (state_standing st ≡ nothing)
+    → Good st × (state_sheet st ≡ empty_sheet) × (opened_sheet st ≡ empty_sheet) × (state_standing st ≡ nothing)
 good_empty st e o m z u =
     let no-conditions : st.tables.conditions ≡ 0 = ap (λ (s : Sheet). s.top) e.sheet in
     let whole : st.opened ≡ vec_len st.tables.outcomes = o ∙ sym e.no_clauses in (
@@ -127,6 +118,7 @@ good_empty st e o m z u =
         ranked = subst (λ (s : Sheet). Ranks s (vec_items st.rank)) (sym e.sheet) (λ p h. ap (λ (xs : List ℕ). at xs p) z ∙ zeros_at 1001 p);
         unbroken = ap satisfiable e.sheet;
       },
+      e.sheet,
       whole_sheet st whole m ∙ e.sheet,
       nothing_stands st whole m,
     )
@@ -189,27 +181,24 @@ module _ (st st' : State) (u : Unmoved st st') where
     marks_stand = k.marks_stand;
   })
 
--- A state that holds a source's sheet and had no ranks is opened on it once it is ranked.
-pub opened_from : (st st' : State) (n : ℕ) → RankedAnew st st' n → (s : Sheet) → Holds s st.tables → st.opened ≡ vec_len st.tables.outcomes → vec_items st.marks ≡ []
-    → vec_items st.rank ≡ replicate 1001 0
-    → Good st' × Opens s (ok (st.opened ∷ (st'.tables.conditions ∷ (n ∷ []))) []) × (opened_sheet st' ≡ s) × (state_standing st' ≡ nothing)
-opened_from st st' n a s h whole bare zeros =
-    let u : Unmoved st st' = a.unmoved in
-    let e : state_sheet st' ≡ s = ap held_sheet u.tables ∙ h.sheet in
-    let same = unmoved_position st st' u in (
-      record {
-        stocked = u.stocked;
-        kept = unmoved_kept st st' u (whole_kept st whole bare h.copied.filled h.copied.few_clauses h.copied.few_places);
-        ranked = a.ranked;
-        unbroken = a.unbroken;
-      },
-      opens_ok s st.opened st'.tables.conditions n h.copied.sheet_clauses h.copied.sheet_literals
-          (sym (ap satisfiable e) ∙ a.unbroken)
-          (whole ∙ st.tables.outcomes.ok.0 ∙ sym (length_clauses (held_rows st.tables)) ∙ ap (λ (x : Sheet). length x.clauses) h.sheet)
+-- A state that holds a source's sheet is opened on it once it is ranked and no ban is broken.
+pub opened_from : (st : State) → Stocked st → Ranks (state_sheet st) (vec_items st.rank) → satisfiable (state_sheet st) ≡ true → (n : ℕ) → n ≡ discharged (state_sheet st)
+    → (s : Sheet) (t : Tables) → st.tables ≡ t → Holds s t → (m : ℕ) → st.opened ≡ m → m ≡ vec_len t.outcomes → vec_items st.marks ≡ []
+    → Good st × Opens s (ok (m ∷ (st.tables.conditions ∷ (n ∷ []))) []) × (state_sheet st ≡ s) × (opened_sheet st ≡ s) × (state_standing st ≡ nothing)
+opened_from st u r k n d s t same h m all count bare =
+    let e : state_sheet st ≡ s = ap held_sheet same ∙ h.sheet in
+    let whole : st.opened ≡ vec_len st.tables.outcomes = all ∙ count ∙ sym (ap (λ (x : Tables). vec_len x.outcomes) same) in
+    let few : vec_len st.tables.outcomes ≤ 2000 = omega (arith, ap (λ (x : Tables). vec_len x.outcomes) same, h.copied.few_clauses) in
+    let short : vec_len st.tables.places ≤ 8000 = omega (arith, ap (λ (x : Tables). vec_len x.places) same, h.copied.few_places) in (
+      record { stocked = u; kept = whole_kept st whole bare u.filled few short; ranked = r; unbroken = k },
+      opens_ok s m st.tables.conditions n h.copied.sheet_clauses h.copied.sheet_literals
+          (sym (ap satisfiable e) ∙ k)
+          (sym all ∙ whole ∙ st.tables.outcomes.ok.0 ∙ sym (length_clauses (held_rows st.tables)) ∙ ap (λ (x : Sheet). length x.clauses) e)
           (ap (λ (x : Sheet). x.top) e)
-          (a.discharged ∙ newly_all (state_sheet st') (vec_items st.rank) 1001 zeros ∙ ap discharged e),
-      ap (λ (x : Position). x.sheet) same ∙ whole_sheet st whole bare ∙ h.sheet,
-      ap (λ (x : Position). x.standing) same ∙ nothing_stands st whole bare,
+          (d ∙ ap discharged e),
+      e,
+      whole_sheet st whole bare ∙ e,
+      nothing_stands st whole bare,
     )
 
 -- What propagation asks of the rows that are lent to it, and what it says of them, it says of the state.

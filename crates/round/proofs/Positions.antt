@@ -13,7 +13,7 @@ use Rattle.horn.specs.Lawfulness.{satisfiable}
 use Rattle.horn.proofs.Tests.{all_true, all_from}
 use Rattle.horn.proofs.Growing.{bans_add_nothing}
 use Rattle.horn.proofs.Lawfulness.{lawful_tested}
-use Rattle.round.specs.Calls.{Filing, Standing, filed, nothing}
+use Rattle.round.specs.Calls.{Filing, Standing, filed}
 use Rattle.round.specs.Runs.{standing_sheet, newly_discharged}
 use Rattle.round.specs.Rows.{at, Filled}
 use Rattle.round.specs.Ranks.{Ranks, ranked}
@@ -23,7 +23,7 @@ use Rattle.round.specs.Sound.{position_sheet}
 use Rattle.round.specs.declared.tables.Tables.{Tables}
 use Rattle.round.specs.declared.state.State.{State}
 use Rattle.round.proofs.Bans.{places_agree}
-use Rattle.round.proofs.Filings.{Sound, unfiled}
+use Rattle.round.proofs.Filings.{Sound}
 use Rattle.round.proofs.Lookups.{length_clauses}
 use Rattle.round.proofs.Meaning.{in_force_ranked}
 
@@ -47,10 +47,6 @@ good_sound st g =
 -- the tables hold the sheet of a position
 pub sheet_of : (st : State) (s : Sheet) (x : Standing) → Kept st → opened_sheet st ≡ s → state_standing st ≡ x → state_sheet st ≡ standing_sheet s x
 sheet_of st s x k es ex = sym (position_sheet st k) ∙ ap₂ (λ (a : Sheet) (b : Standing). standing_sheet a b) es ex
-
--- a state on which nothing stands holds the sheet that it was opened on
-pub bare_sheet : (st : State) (s : Sheet) → Kept st → opened_sheet st ≡ s → state_standing st ≡ nothing → state_sheet st ≡ s
-bare_sheet st s k es ex = sheet_of st s nothing k es ex ∙ unfiled s
 
 -- There are at most 8,000 places and one for each filing.
 pub room_places : (st : State) → Filled (held_rows st.tables) → Kept st → vec_len st.tables.places ≤ 8000 + (vec_len st.tables.outcomes - st.opened)

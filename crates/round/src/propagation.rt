@@ -14,7 +14,7 @@ ghost use Rattle.round.specs.Scratch.{Ready};
 use levels::{seed, spread};
 use occurrences::{Occurrences, link};
 pub(crate) use rows::ClauseRows;
-pub(crate) use scan::{count_newly, lowest_broken};
+pub(crate) use scan::{count_discharged, count_newly, lowest_broken};
 pub(crate) use scratch::Scratch;
 
 // Clears a table.

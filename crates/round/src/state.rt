@@ -1,12 +1,14 @@
 // What a round is made of: the clauses, the marks, the rank of each condition, and tables to work in.
-ghost use Rattle.std.specs.Prelude.{◌≡◌, replicate, IfOk};
+ghost use Rattle.std.specs.Prelude.{◌≡◌, IfOk};
 ghost use Rattle.horn.specs.Sheets.{empty_sheet};
-ghost use Rattle.round.specs.Answers.{Opens, opened as opened_by};
+ghost use Rattle.horn.specs.Bans.{discharged as discharged_places};
+ghost use Rattle.round.specs.Answers.{Opens};
 ghost use Rattle.round.specs.Calls.{nothing};
-ghost use Rattle.round.specs.Replies.{opening_answer};
-ghost use Rattle.round.specs.Good.{Good, Stocked, Usable, Settled, opened_sheet, state_standing};
+ghost use Rattle.round.specs.Ranks.{Ranks, Scanned};
+ghost use Rattle.round.specs.Replies.{opening_answer, sheet_left};
+ghost use Rattle.round.specs.Good.{Good, Stocked, Usable, Settled, state_sheet, opened_sheet, state_standing};
 
-use crate::propagation::{Scratch, count_newly, lowest_broken, ranks};
+use crate::propagation::{Scratch, count_discharged, count_newly, lowest_broken, ranks};
 use crate::refusals::{Opened, Refusal};
 use crate::tables::Tables;
 use horn::source::Source;
@@ -28,7 +30,8 @@ pub(crate) struct State {
 impl State {
     // Without clauses and conditions.
     pub(crate) fn new(heap: Global) -> Result<State, AllocError>
-        ensures { IfOk result (λ s. Good s × (opened_sheet s ≡ empty_sheet) × (state_standing s ≡ nothing)) }
+        ensures sheet { IfOk result (λ s. Good s × (state_sheet s ≡ empty_sheet)) }
+        ensures start { IfOk result (λ s. (opened_sheet s ≡ empty_sheet) × (state_standing s ≡ nothing)) }
     {
         let tables = Tables::new(heap)?;
         let marks = Vec::with_capacity(heap, 32)?;
@@ -51,10 +54,9 @@ impl State {
     fn empty(&mut self)
         requires { Usable self.old }
         ensures good { Good self.new }
-        ensures sheet { opened_sheet self.new ≡ empty_sheet }
+        ensures sheet { state_sheet self.new ≡ empty_sheet }
+        ensures opened { opened_sheet self.new ≡ empty_sheet }
         ensures standing { state_standing self.new ≡ nothing }
-        ensures opened { self.new.opened ≡ 0 }
-        ensures ranks { self.new.rank.items ≡ replicate 1001 0 }
     {
         self.tables.clear();
         self.opened = 0;
@@ -79,29 +81,62 @@ impl State {
         }
     }
 
+    // Ranks the conditions anew.
+    fn rank_conditions(&mut self)
+        requires { Stocked self.old }
+        ensures tables { self.new.tables ≡ self.old.tables }
+        ensures stocked { Stocked self.new }
+        ensures ranked { Ranks (state_sheet self.new) self.new.rank.items }
+        ensures opened { self.new.opened ≡ self.old.opened }
+        ensures marks { self.new.marks ≡ self.old.marks }
+    {
+        ranks(self.tables.rows(), &mut self.rank, &mut self.scratch);
+    }
+
+    // The lowest broken ban, if there is one.
+    fn broken(&self) -> Option<u16>
+        requires stocked { Stocked self.now }
+        requires ranked { Ranks (state_sheet self.now) self.now.rank.items }
+        ensures { Scanned (state_sheet self.now) result }
+    {
+        lowest_broken(self.tables.rows(), &self.rank)
+    }
+
+    // How many body places are discharged.
+    fn discharged(&self) -> u16
+        requires stocked { Stocked self.now }
+        requires ranked { Ranks (state_sheet self.now) self.now.rank.items }
+        ensures { result ≡ discharged_places (state_sheet self.now) }
+    {
+        count_discharged(self.tables.rows(), &self.rank)
+    }
+
     // Copies a source's clauses, ranks the conditions and looks for a broken ban. Refused, it is left empty.
     pub(crate) fn open<S: Source>(&mut self, source: &S) -> Result<Opened, Refusal>
         requires { Usable self.old }
         ensures good { Good self.new }
         ensures answer { Opens (S.Source.sheet source.now) (opening_answer result) }
-        ensures sheet { opened_sheet self.new ≡ opened_by (opening_answer result) (S.Source.sheet source.now) }
+        ensures sheet { state_sheet self.new ≡ sheet_left result (S.Source.sheet source.now) }
+        ensures opened { opened_sheet self.new ≡ sheet_left result (S.Source.sheet source.now) }
         ensures standing { state_standing self.new ≡ nothing }
     {
-        self.empty();
         if !self.tables.fill_from(source) {
+            self.empty();
             return Err(Refusal::TooLarge);
         }
         let clauses = self.tables.clauses();
         self.opened = clauses;
-        match self.settle() {
-            Err(ban) => {
+        self.marks.clear();
+        self.rank_conditions();
+        match self.broken() {
+            Some(ban) => {
                 self.empty();
                 Err(Refusal::Contradiction(ban))
             }
-            Ok(discharged) => Ok(Opened {
+            None => Ok(Opened {
                 clauses,
                 conditions: self.tables.conditions,
-                discharged,
+                discharged: self.discharged(),
             }),
         }
     }

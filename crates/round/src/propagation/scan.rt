@@ -1,6 +1,6 @@
 // What the ranks say of the bans and of the body places.
 ghost use Rattle.std.specs.Prelude.{◌≡◌, ℕ, ◌<◌, ◌≤◌, not, ◌&&◌, length};
-ghost use Rattle.horn.specs.Bans.{places};
+ghost use Rattle.horn.specs.Bans.{discharged, places};
 ghost use Rattle.horn.specs.Levels.{in_force};
 ghost use Rattle.horn.specs.Sheets.{Lawful, all_of};
 ghost use Rattle.round.specs.Ranks.{Ranks, Scanned, ranked};
@@ -36,17 +36,32 @@ pub(crate) fn lowest_broken(clauses: ClauseRows<'_>, rank: &[u16]) -> Option<u16
     None
 }
 
+// How many body places are discharged: those whose condition is in force, in all clauses.
+pub(crate) fn count_discharged(clauses: ClauseRows<'_>, rank: &[u16]) -> u16
+    requires lawful { LawfulRows 1001 (rows_of clauses) }
+    requires sizes { (length rank.now ≡ 1001) × (length clauses.outcomes.now ≤ 2256) × (length clauses.places.now ≤ 8256) }
+    ensures { (top : ℕ) → Lawful (sheet_in top (rows_of clauses.entry)) → Ranks (sheet_in top (rows_of clauses.entry)) rank.now → result ≡ discharged (sheet_in top (rows_of clauses.entry)) }
+{
+    let mut n = 0;
+    for p in clauses.places {
+        if rank[*p as usize] > 0 {
+            n += 1;
+        }
+    }
+    n
+}
+
 // How many body places, in all clauses, hold a condition that has a rank in `after` and none in `before`.
 pub(crate) fn count_newly(clauses: ClauseRows<'_>, before: &[u16], after: &[u16]) -> u16
     requires lawful { LawfulRows 1001 (rows_of clauses) }
     requires sizes { (length before.now ≡ 1001) × (length after.now ≡ 1001) × (length clauses.outcomes.now ≤ 2256) × (length clauses.places.now ≤ 8256) }
     ensures { (top : ℕ) → Lawful (sheet_in top (rows_of clauses.entry)) → Ranks (sheet_in top (rows_of clauses.entry)) after.now → result ≡ places (λ p. in_force (sheet_in top (rows_of clauses.entry)) p && not (ranked before.now p)) (sheet_in top (rows_of clauses.entry)).clauses }
 {
-    let mut n = 0;
+    let mut newly = 0;
     for p in clauses.places {
         if after[*p as usize] > 0 && before[*p as usize] == 0 {
-            n += 1;
+            newly += 1;
         }
     }
-    n
+    newly
 }

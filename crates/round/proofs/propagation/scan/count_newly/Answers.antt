@@ -20,14 +20,14 @@ loop-p-preserved c =
       | then-after-p-gt0+then-before-p-eq0 w ↦ (
           let one : ◌≡◌ {A = ℕ} (cond (f x) 1 0) 1 =
           cond-true (f x) 1 0 (and_from (ltb 0 a) (not (ltb 0 b)) (lt-ltb 0 a w.if-after-p-gt0.true) (not_from_false (ltb 0 b) (le-ltb 0 b (omega (arith, w.if-before-p-eq0.true))))) in
-          omega (arith, w.n-is, more, one, c.loop-p.invariant))
+          omega (arith, w.newly-is, more, one, c.loop-p.invariant))
       | else-after-p-gt0 w ↦ (
           let failed : f x ≡ false = elim w.else-after-p-gt0.branch [
             | else-after-p-gt0-via-then-after-p-gt0+else-before-p-eq0 v ↦ and_right (ltb 0 a) (not (ltb 0 b)) (not_from_true (ltb 0 b) (lt-ltb 0 b (omega (arith, v.if-before-p-eq0.false))))
             | else-after-p-gt0-via-else-after-p-gt0 v ↦ and_left (ltb 0 a) (not (ltb 0 b)) (le-ltb 0 a v.if-after-p-gt0.false)
           ] in
           let none : ◌≡◌ {A = ℕ} (cond (f x) 1 0) 0 = cond-false (f x) 1 0 failed in
-          omega (arith, w.n-is, more, none, c.loop-p.invariant))
+          omega (arith, w.newly-is, more, none, c.loop-p.invariant))
     ]
 
 pub returns : goal.returns

@@ -4,4 +4,4 @@ use Rattle.round.specs.Ranks.{ranked}
 use Rattle.round.proofs.propagation.scan.count_newly.Given as goal
 
 abbrev pub invariant-loop-p : goal.invariant-loop-p
-invariant-loop-p l = (l.n ≡ tally (λ p. ranked l.after p && not (ranked l.before p)) (take l.p-index l.clauses.places.now)) × (l.n ≤ l.p-index)
+invariant-loop-p l = (l.newly ≡ tally (λ p. ranked l.after p && not (ranked l.before p)) (take l.p-index l.clauses.places.now)) × (l.newly ≤ l.p-index)

@@ -1,7 +1,6 @@
-use Rattle.std.proofs.Common.{◌∙◌}
+use Rattle.std.proofs.Common.{sym, ◌∙◌}
 use Rattle.round.specs.Good.{good}
 use Rattle.round.specs.Replies.{opening_answer}
-use Rattle.round.proofs.Positions.{bare_sheet}
 use Rattle.round.proofs.Replying.{opened_left}
 use Rattle.round.proofs.Promise.{opening_promised}
 use Rattle.round.proofs.sound.Round.open.Goals as goal
@@ -15,8 +14,8 @@ invariant_of-self g c = record { ok = ∣ c.open.ensures.good ∣₁ }
 pub returns : goal.returns
 returns g c = record {
   answer = c.open.ensures.answer;
-  left = bare_sheet c.open.new.self _ c.open.ensures.good.kept c.open.ensures.sheet c.open.ensures.standing ∙ opened_left c.open.result (g.S.Source.sheet c.args.source.now);
-  sheet = c.open.ensures.sheet;
+  left = c.open.ensures.sheet;
+  sheet = c.open.ensures.opened ∙ sym (opened_left c.open.result (g.S.Source.sheet c.args.source.now));
   standing = c.open.ensures.standing;
   promise = opening_promised (g.S.Source.sheet c.args.source.now) (g.S.Source.lawful c.args.source.now).lawful (opening_answer c.open.result) c.open.ensures.answer;
 }

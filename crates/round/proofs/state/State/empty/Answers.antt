@@ -18,4 +18,4 @@ returns c =
       ready = u.ready;
       mark_room = omega (arith, c.clear-2.ensures.capacity, u.mark_room);
     }) in
-    record { good = e.0; sheet = e.1; standing = e.2; opened = refl; ranks = z }
+    record { good = e.0; sheet = e.1; opened = e.2; standing = e.3 }
