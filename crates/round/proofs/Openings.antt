@@ -1,21 +1,19 @@
 -- What the tables of a round hold after an opening.
-use Rattle.std.proofs.Common.{◌≡◌, ℕ, zero, suc, ◌+◌, ◌-◌, ◌<◌, ◌≤◌, Bool, true, false, not, ◌&&◌, ltb, List, [], ◌∷◌, map, length, get_or, take, drop, replicate, Some, vec_items, vec_len, sym, refl, ap, ◌∙◌, subst, subst₂, add-one, arith}
+use Rattle.std.proofs.Common.{◌≡◌, ℕ, zero, suc, ◌+◌, ◌-◌, ◌<◌, ◌≤◌, true, List, [], ◌∷◌, map, length, get_or, take, drop, replicate, Some, vec_items, vec_len, sym, refl, ap, ◌∙◌, subst, subst₂, add-one, arith}
 use native.Mathlib.Decide.{dec_le}
 use Rattle.std.proofs.lemmas.List.{take_all, drop_all}
 use Rattle.horn.specs.Sheets.{Sheet, Clause, Condition, Lawful, LawfulClause, empty_sheet, all_of}
-use Rattle.horn.specs.Levels.{in_force}
-use Rattle.horn.specs.Bans.{places, discharged}
+use Rattle.horn.specs.Bans.{discharged}
 use Rattle.horn.specs.Lawfulness.{lawful, satisfiable}
 use Rattle.horn.specs.Sources.{LawfulSource}
 use Rattle.horn.proofs.Lawfulness.{lawful_tested}
 use Rattle.horn.proofs.Tests.{all_nth}
 use Rattle.round.specs.Rows.{at, Rows, Body, Filled, LawfulRows, kept_outcome, clause_in, clauses_in, sheet_in}
-use Rattle.round.specs.Ranks.{Ranks, ranked}
+use Rattle.round.specs.Ranks.{Ranks}
 use Rattle.round.specs.Held.{held_rows, held_sheet, Emptied, Holds}
 use Rattle.round.specs.Answers.{Opens, ok}
 use Rattle.round.specs.Calls.{nothing}
-use Rattle.round.specs.Runs.{Position}
-use Rattle.round.specs.Good.{Usable, Stocked, Kept, Good, Unmoved, RankedAnew, state_sheet, is_filing, filing_of, opened_sheet, state_standing, state_position}
+use Rattle.round.specs.Good.{Usable, Stocked, Kept, Good, Unmoved, state_sheet, is_filing, filing_of, opened_sheet, state_standing, state_position}
 use Rattle.round.specs.declared.tables.Tables.{Tables}
 use Rattle.round.specs.declared.state.State.{State}
 use Rattle.round.proofs.Growing.{filled_writing}

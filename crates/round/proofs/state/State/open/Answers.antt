@@ -1,5 +1,4 @@
-use Rattle.std.proofs.Common.{◌≡◌, [], vec_items, refl, ap, ◌∙◌, arith}
-use Rattle.round.specs.declared.state.State.{State}
+use Rattle.std.proofs.Common.{vec_items, refl, ap, ◌∙◌, arith}
 use Rattle.round.proofs.Openings.{stocked_from, opened_from}
 use Rattle.round.proofs.state.State.open.Goals as goal
 
