@@ -4,7 +4,7 @@
 usage: python3 tools/respell.py [--list]      at the top of the repository, once, after the kit's port.py
 
 Only whole names that the repository declares in its own specs/ and proofs/ are turned (and names that an 'as' gives). Names that Rattle makes
-(goals, invariants, steps), functions of src/, strings, inputs and outputs stay. A new name that would fall together with another stops the script.
+(goals, invariants, steps), functions of src/, strings, inputs and outputs stay. A new name that would fall together with another is printed.
 """
 
 import glob

@@ -1,20 +1,16 @@
 // One episode, from a network's and a show's sheet to the feed: reads two files, judges both texts, joins them, opens a
-// round, carries out the orders of the command line on it and prints what it did and why.
+// round and prints what it did.
 #![tactic(auto)]
 
-use acting::carry_out;
 use anyhow::anyhow;
 use horn::joined::Joined;
 use horn::source::Source;
-use orders::read_order;
 use round::{Opened, Refusal, Round};
 use std::io::Write;
 use std::{env, fs, io};
 use text::{Fault, TextSheet};
 
-mod acting;
 mod feed;
-mod orders;
 mod words;
 
 fn main(rt: HostRuntime) -> anyhow::Result<()> {
@@ -32,32 +28,21 @@ fn run(rt: &HostRuntime) -> anyhow::Result<()> {
     };
     let network_file = fs::read(rt, network_path.as_str())?;
     let show_file = fs::read(rt, show_path.as_str())?;
-    let network_text = words::without_line_end(&network_file);
-    let show_text = words::without_line_end(&show_file);
-    let mut round = Round::new(rt.alloc())?;
-    if !open(rt, network_text, show_text, &mut round)? {
-        return Ok(());
-    }
-    let mut steps = vec![in rt.alloc(); 0u16; 1000]?;
-    for word in args {
-        let order = read_order(word.as_str())?;
-        carry_out(rt, &mut round, order, &mut steps)?;
-    }
-    published(rt, &round)?;
+    episode(
+        rt,
+        words::without_line_end(&network_file),
+        words::without_line_end(&show_file),
+    )?;
     Ok(())
 }
 
-// Judges both texts and opens the round on them; false where it is refused.
-fn open(
-    rt: &HostRuntime,
-    network_text: &[u8],
-    show_text: &[u8],
-    round: &mut Round,
-) -> io::Result<bool> {
+// The whole task on two texts.
+fn episode(rt: &HostRuntime, network_text: &[u8], show_text: &[u8]) -> io::Result<()> {
     let network = TextSheet::new(rt.alloc(), network_text)?;
     let show = TextSheet::new(rt.alloc(), show_text)?;
     judged(rt, "The network's sheet", network_text, &network)?;
     judged(rt, "The show's sheet", show_text, &show)?;
+    let mut round = Round::new(rt.alloc())?;
     let both = Joined {
         first: &network,
         second: &show,
@@ -65,12 +50,9 @@ fn open(
     match round.open(&both) {
         Ok(answer) => {
             opened(rt, answer)?;
-            Ok(true)
+            published(rt, &round)
         }
-        Err(refusal) => {
-            turned_back(rt, refusal)?;
-            Ok(false)
-        }
+        Err(refusal) => turned_back(rt, refusal),
     }
 }
 

@@ -99,7 +99,8 @@ module _ (st st' : State) (f : Filing) (g : Good st) (condition : Condition (ope
   filed_stocked u h = stocked_at st' u h (omega (arith, grown.conditions, g.stocked.few_conditions)) filed_kept (subst Lawful (sym next_is) next_lawful)
 
 -- a ban, written as one place and no outcome
-module _ (st st' : State) (t : Tables) (p : ℕ) (g : Good st) (opened : st'.opened ≡ st.opened) (marks : st'.marks ≡ st.marks) (placed : Placed st.tables t p) (ended : Ended t st'.tables 0)
+module _ (st st' : State) (t : Tables) (p : ℕ) (g : Good st) (opened : st'.opened ≡ st.opened) (marks : st'.marks ≡ st.marks) (placed : Placed st.tables t p) (same : vec_items t.starts ≡ vec_items st.tables.starts)
+    (ended : Ended t st'.tables 0) (begun : vec_items st'.tables.starts ≡ vec_items t.starts ++ vec_len t.places ∷ [])
     (room : vec_len st.tables.outcomes - st.opened < 256) where
   pub ban_grown : Grown st st' (clause_of (of_ban p))
   ban_grown = record {
@@ -108,7 +109,7 @@ module _ (st st' : State) (t : Tables) (p : ℕ) (g : Good st) (opened : st'.ope
     conditions = ended.conditions ∙ ap (λ (s : Sheet). s.top) placed.sheet;
     clauses = ended.clauses ∙ ap₂ (λ (cs : List Clause) (b : List ℕ). cs ++ record { body = b; outcome = (clause_of (of_ban p)).outcome } ∷ []) (ap (λ (s : Sheet). s.clauses) placed.sheet)
         (placed.body ∙ ap (λ (b : List ℕ). b ++ p ∷ []) (filled_unfinished (held_rows st.tables) g.stocked.filled));
-    starts = ended.starts ∙ ap₂ (λ (ss : List ℕ) (n : ℕ). ss ++ n ∷ []) placed.starts (sym ended.places_count);
+    starts = begun ∙ ap₂ (λ (ss : List ℕ) (n : ℕ). ss ++ n ∷ []) same (sym ended.places_count);
     count = ended.clauses_count ∙ ap (λ (n : ℕ). n + 1) placed.clauses_count;
     places = omega (arith, ended.places_count, placed.places_count);
     filing = refl;
@@ -136,7 +137,7 @@ module _ (st st' : State) (t : Tables) (p : ℕ) (g : Good st) (opened : st'.ope
     }
 
 -- a fact, written as no place and this outcome
-module _ (st st' : State) (p : ℕ) (g : Good st) (opened : st'.opened ≡ st.opened) (marks : st'.marks ≡ st.marks) (ended : Ended st.tables st'.tables p)
+module _ (st st' : State) (p : ℕ) (g : Good st) (opened : st'.opened ≡ st.opened) (marks : st'.marks ≡ st.marks) (ended : Ended st.tables st'.tables p) (begun : vec_items st'.tables.starts ≡ vec_items st.tables.starts ++ vec_len st.tables.places ∷ [])
     (room : vec_len st.tables.outcomes - st.opened < 256) (low : 1 ≤ p) (high : p ≤ st.tables.conditions) where
   pub fact_grown : Grown st st' (clause_of (of_fact p))
   fact_grown = record {
@@ -144,7 +145,7 @@ module _ (st st' : State) (p : ℕ) (g : Good st) (opened : st'.opened ≡ st.op
     marks = marks;
     conditions = ended.conditions;
     clauses = ended.clauses ∙ ap₂ (λ (b : List ℕ) (o : Option ℕ). (state_sheet st).clauses ++ record { body = b; outcome = o } ∷ []) (filled_unfinished (held_rows st.tables) g.stocked.filled) (kept_some p low);
-    starts = ended.starts ∙ ap (λ (n : ℕ). vec_items st.tables.starts ++ n ∷ []) (sym ended.places_count);
+    starts = begun ∙ ap (λ (n : ℕ). vec_items st.tables.starts ++ n ∷ []) (sym ended.places_count);
     count = ended.clauses_count;
     places = omega (arith, ended.places_count);
     filing = refl;

@@ -8,7 +8,7 @@ use Rattle.round.specs.Runs.{Answers, Run, standing_sheet}
 use Rattle.round.specs.Replies.{opening_answer, fact_answer, number_answer, ask_answer, roll_answer, explain_answer}
 use Rattle.round.specs.declared.refusals.Refusal.{Refusal}
 use Rattle.round.specs.declared.refusals.Refusal.TheVariants.{TooLarge, NoCondition, FilingsFull, Contradiction, MarksFull, ShortBuffer, NoMark, NotInForce}
-use Rattle.round.specs.Determined.{One, OneRun, Faithful, Determined}
+use Rattle.round.specs.Determined.{One, OneRun, Faithful, Determined, RunsDetermined}
 
 -- the last case
 one_last : (x : Answer) → One (λ a. a ≡ x)
@@ -147,13 +147,17 @@ determined = record {
   opens = λ s. one_else _ _ _ (either _ _ (below 2000 _) (below 8000 _)) (one_else _ _ _ (same_bool _ _) (one_last _));
   asks = one_ask;
   rolls = one_roll;
-  each_call = one_answer;
-  each_run = one_run;
   opening_results = faithful opening_answer (λ e. refl) (λ a. (_, _, refl))
       (λ a b e i. record { clauses = first_number e i; conditions = second_number e i; discharged = third_number e i });
-  fact_results = faithful fact_answer (λ e. refl) (λ a. (_, _, refl)) (λ a b e i. record { number = first_number e i; discharged = second_number e i });
-  number_results = faithful number_answer (λ e. refl) (λ a. (_, _, refl)) (λ a b e. first_number e);
   ask_results = faithful ask_answer (λ e. refl) (λ a. (_, _, refl)) (λ a b e. same_bit a b (first_number e));
   roll_results = λ words. faithful (λ r. roll_answer r words) (λ e. refl) (λ a. (_, _, refl)) (λ a b e. first_number e);
+}
+
+pub runs_determined : RunsDetermined
+runs_determined = record {
+  each_call = one_answer;
+  each_run = one_run;
+  fact_results = faithful fact_answer (λ e. refl) (λ a. (_, _, refl)) (λ a b e i. record { number = first_number e i; discharged = second_number e i });
+  number_results = faithful number_answer (λ e. refl) (λ a. (_, _, refl)) (λ a b e. first_number e);
   explain_results = λ buffer. faithful (λ r. explain_answer r buffer) (λ e. refl) (λ a. (_, _, refl)) (λ a b e i. record { length = first_number e i; steps = second_number e i });
 }

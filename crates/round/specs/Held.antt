@@ -25,7 +25,6 @@ pub record Placed (t t' : Tables) (p : ℕ) : Type 0 where
   pub roomy : Roomy t'
   pub sheet : held_sheet t' ≡ held_sheet t
   pub body : unfinished (held_rows t') ≡ unfinished (held_rows t) ++ p ∷ []
-  pub starts : vec_items t'.starts ≡ vec_items t.starts
   pub clauses_count : vec_len t'.outcomes ≡ vec_len t.outcomes
   pub places_count : vec_len t'.places ≡ vec_len t.places + 1
 
@@ -36,7 +35,6 @@ pub record Ended (t t' : Tables) (outcome : ℕ) : Type 0 where
   pub conditions : t'.conditions ≡ t.conditions
   pub clauses : (held_sheet t').clauses ≡ (held_sheet t).clauses ++ record { body = unfinished (held_rows t); outcome = kept_outcome outcome } ∷ []
   pub body : unfinished (held_rows t') ≡ []
-  pub starts : vec_items t'.starts ≡ vec_items t.starts ++ vec_len t.places ∷ []
   pub clauses_count : vec_len t'.outcomes ≡ vec_len t.outcomes + 1
   pub places_count : vec_len t'.places ≡ vec_len t.places
 

@@ -1,5 +1,5 @@
 // The tables of a round's clauses. All memory is reserved when they are made.
-ghost use Rattle.std.specs.Prelude.{◌≡◌, ◌+◌, ◌<◌, ◌≤◌, true, false, [], IfOk, Some, vec_len, slice_index};
+ghost use Rattle.std.specs.Prelude.{◌≡◌, ◌∷◌, ◌++◌, ◌+◌, ◌<◌, ◌≤◌, true, false, [], IfOk, Some, vec_len, slice_index};
 ghost use Rattle.horn.specs.Sheets.{empty_sheet, IsTooLarge};
 ghost use Rattle.horn.specs.Sources.{outcome_at, size_at, condition_at};
 ghost use Rattle.round.specs.Rows.{rows_of, Filled};
@@ -55,7 +55,8 @@ impl Tables {
         requires writing { Writing (held_rows self.old) }
         requires roomy { Roomy self.old }
         requires room { vec_len self.old.places < 8256 }
-        ensures { Placed self.old self.new p }
+        ensures placed { Placed self.old self.new p }
+        ensures starts { self.new.starts.items ≡ self.old.starts.items }
     {
         self.places.push_reserved(p);
     }
@@ -66,7 +67,8 @@ impl Tables {
         requires roomy { Roomy self.old }
         requires room { vec_len self.old.outcomes < 2256 }
         requires few { vec_len self.old.places ≤ 8256 }
-        ensures { Ended self.old self.new outcome }
+        ensures ended { Ended self.old self.new outcome }
+        ensures starts { self.new.starts.items ≡ self.old.starts.items ++ vec_len self.old.places ∷ [] }
     {
         let end = self.places.len() as u16;
         self.outcomes.push_reserved(outcome);

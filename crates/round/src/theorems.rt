@@ -1,5 +1,5 @@
 // What the answers of a round mean: each contract below is a theorem, so the check asks for its proof.
-ghost use Rattle.round.specs.Determined.{Determined};
+ghost use Rattle.round.specs.Determined.{Determined, RunsDetermined};
 ghost use Rattle.round.specs.Exact.{OpeningExact, ReportsExact};
 ghost use Rattle.round.specs.Examples.{WorkedRun};
 ghost use Rattle.round.specs.Sound.{FilingsHeld, PromiseKept, Satisfied};
@@ -7,6 +7,13 @@ ghost use Rattle.round.specs.Sound.{FilingsHeld, PromiseKept, Satisfied};
 // Each call has exactly one answer, and one result.
 pub fn determined_stands() -> u8
     ensures { Determined }
+{
+    0
+}
+
+// So has each call by what stands, and each list of calls.
+pub fn runs_determined_stands() -> u8
+    ensures { RunsDetermined }
 {
     0
 }

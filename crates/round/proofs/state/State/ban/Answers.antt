@@ -32,10 +32,10 @@ pub end_clause-requires : goal.end_clause-requires
 end_clause-requires c =
     let room = room_places c.args.self.now c.requires.stocked.filled c.requires.kept in
     record {
-      writing = c.add_place.ensures.writing;
-      roomy = c.add_place.ensures.roomy;
-      room = omega (arith, c.add_place.ensures.clauses_count, c.requires.kept.few_opened, c.clauses-clauses.ensures, c.if-clauses-self-ge-MAX_FILINGS.false);
-      few = omega (arith, c.add_place.ensures.places_count, room, c.clauses-clauses.ensures, c.if-clauses-self-ge-MAX_FILINGS.false);
+      writing = c.add_place.ensures.placed.writing;
+      roomy = c.add_place.ensures.placed.roomy;
+      room = omega (arith, c.add_place.ensures.placed.clauses_count, c.requires.kept.few_opened, c.clauses-clauses.ensures, c.if-clauses-self-ge-MAX_FILINGS.false);
+      few = omega (arith, c.add_place.ensures.placed.places_count, room, c.clauses-clauses.ensures, c.if-clauses-self-ge-MAX_FILINGS.false);
     }
 
 pub returns : goal.returns
@@ -47,8 +47,8 @@ returns c =
     let low : 1 ≤ p = omega (arith, c.if-p-eq0.false) in
     let room : vec_len st.tables.outcomes - st.opened < 256 = omega (arith, c.clauses-clauses.ensures, c.if-clauses-self-ge-MAX_FILINGS.false) in
     record {
-      good = ban_good st st' c.add_place.new.self p c.requires refl refl c.add_place.ensures c.end_clause.ensures room low c.if-p-self.false c.index.result.now c.index.ensures c.if-index-gt0.false
-          (record { roomy = c.end_clause.ensures.roomy; ranks = u.ranks; spares = u.spares; choices = u.choices; ready = u.ready; mark_room = u.mark_room }) refl;
-      step = ban_step st st' c.add_place.new.self p c.requires refl refl c.add_place.ensures c.end_clause.ensures room low c.if-p-self.false c.index.result.now c.index.ensures c.if-index-gt0.false
+      good = ban_good st st' c.add_place.new.self p c.requires refl refl c.add_place.ensures.placed c.add_place.ensures.starts c.end_clause.ensures.ended c.end_clause.ensures.starts room low c.if-p-self.false c.index.result.now c.index.ensures c.if-index-gt0.false
+          (record { roomy = c.end_clause.ensures.ended.roomy; ranks = u.ranks; spares = u.spares; choices = u.choices; ready = u.ready; mark_room = u.mark_room }) refl;
+      step = ban_step st st' c.add_place.new.self p c.requires refl refl c.add_place.ensures.placed c.add_place.ensures.starts c.end_clause.ensures.ended c.end_clause.ensures.starts room low c.if-p-self.false c.index.result.now c.index.ensures c.if-index-gt0.false
           (c.clauses-clauses.result + 1) (ap (λ (n : ℕ). n + 1) c.clauses-clauses.ensures);
     }

@@ -24,8 +24,8 @@ settle-requires c =
     let st = c.args.self.now in
     let u = c.requires.stocked.usable in
     let room : vec_len st.tables.outcomes - st.opened < 256 = omega (arith, c.clauses-clauses.ensures, c.if-clauses-self-ge-MAX_FILINGS.false) in
-    fact_stocked st _ c.args.p c.requires refl refl c.end_clause.ensures room (omega (arith, c.if-p-eq0.false)) c.if-p-self.false
-    (record { roomy = c.end_clause.ensures.roomy; ranks = u.ranks; spares = u.spares; choices = u.choices; ready = u.ready; mark_room = u.mark_room })
+    fact_stocked st _ c.args.p c.requires refl refl c.end_clause.ensures.ended c.end_clause.ensures.starts room (omega (arith, c.if-p-eq0.false)) c.if-p-self.false
+    (record { roomy = c.end_clause.ensures.ended.roomy; ranks = u.ranks; spares = u.spares; choices = u.choices; ready = u.ready; mark_room = u.mark_room })
 
 pub returns-in-Err : goal.returns-in-Err
 returns-in-Err c =
@@ -38,10 +38,10 @@ returns-in-Err c =
     let room : vec_len st.tables.outcomes - st.opened < 256 = omega (arith, c.clauses-clauses.ensures, c.if-clauses-self-ge-MAX_FILINGS.false) in
     let low : 1 ≤ p = omega (arith, c.if-p-eq0.false) in
     record {
-      good = fact_good_again st st' p c.requires refl refl c.end_clause.ensures room low c.if-p-self.false st'' st''' c.in-Err.ban c.clauses-clauses.result c.in-Err.ensures c.truncate.ensures c.clauses-clauses.ensures refl refl
+      good = fact_good_again st st' p c.requires refl refl c.end_clause.ensures.ended c.end_clause.ensures.starts room low c.if-p-self.false st'' st''' c.in-Err.ban c.clauses-clauses.result c.in-Err.ensures c.truncate.ensures c.clauses-clauses.ensures refl refl
           (record { roomy = c.truncate.ensures.roomy; ranks = u.ranks; spares = u.spares; choices = u.choices; ready = u.ready; mark_room = u.mark_room })
           (λ i. vec_items (c.in-Err.ensures.ranks i));
-      step = fact_refused st st' p c.requires refl refl c.end_clause.ensures room low c.if-p-self.false st'' st''' c.in-Err.ban c.clauses-clauses.result c.in-Err.ensures c.truncate.ensures c.clauses-clauses.ensures refl refl;
+      step = fact_refused st st' p c.requires refl refl c.end_clause.ensures.ended c.end_clause.ensures.starts room low c.if-p-self.false st'' st''' c.in-Err.ban c.clauses-clauses.result c.in-Err.ensures c.truncate.ensures c.clauses-clauses.ensures refl refl;
     }
 
 pub returns-in-Ok : goal.returns-in-Ok
@@ -53,7 +53,7 @@ returns-in-Ok c =
     let room : vec_len st.tables.outcomes - st.opened < 256 = omega (arith, c.clauses-clauses.ensures, c.if-clauses-self-ge-MAX_FILINGS.false) in
     let low : 1 ≤ p = omega (arith, c.if-p-eq0.false) in
     record {
-      good = fact_good st st' p c.requires refl refl c.end_clause.ensures room low c.if-p-self.false st'' c.in-Ok.discharged refl c.in-Ok.ensures;
-      step = fact_step st st' p c.requires refl refl c.end_clause.ensures room low c.if-p-self.false st'' c.in-Ok.discharged refl c.in-Ok.ensures
+      good = fact_good st st' p c.requires refl refl c.end_clause.ensures.ended c.end_clause.ensures.starts room low c.if-p-self.false st'' c.in-Ok.discharged refl c.in-Ok.ensures;
+      step = fact_step st st' p c.requires refl refl c.end_clause.ensures.ended c.end_clause.ensures.starts room low c.if-p-self.false st'' c.in-Ok.discharged refl c.in-Ok.ensures
           (c.clauses-clauses.result + 1) (ap (λ (n : ℕ). n + 1) c.clauses-clauses.ensures);
     }

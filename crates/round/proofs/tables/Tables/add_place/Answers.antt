@@ -16,11 +16,13 @@ returns c =
     let is : qs ≡ ps ++ p ∷ [] = c.push_reserved.ensures.items in
     let w : Writing (rows os ss ps) = c.requires.writing in
     record {
-      writing = subst (λ (q : List ℕ). Writing (rows os ss q)) (sym is) (writing_place os ss ps w p);
-      roomy = record { outcome_room = c.requires.roomy.outcome_room; start_room = c.requires.roomy.start_room; place_room = omega (arith, c.push_reserved.ensures.capacity, c.requires.roomy.place_room) };
-      sheet = ap (λ (cs : List Clause). record { top = t.conditions; clauses = cs }) (ap (λ (q : List ℕ). clauses_in (rows os ss q)) is ∙ clauses_place os ss ps w p);
-      body = ap (λ (q : List ℕ). unfinished (rows os ss q)) is ∙ body_place os ss ps w p;
+      placed = record {
+        writing = subst (λ (q : List ℕ). Writing (rows os ss q)) (sym is) (writing_place os ss ps w p);
+        roomy = record { outcome_room = c.requires.roomy.outcome_room; start_room = c.requires.roomy.start_room; place_room = omega (arith, c.push_reserved.ensures.capacity, c.requires.roomy.place_room) };
+        sheet = ap (λ (cs : List Clause). record { top = t.conditions; clauses = cs }) (ap (λ (q : List ℕ). clauses_in (rows os ss q)) is ∙ clauses_place os ss ps w p);
+        body = ap (λ (q : List ℕ). unfinished (rows os ss q)) is ∙ body_place os ss ps w p;
+        clauses_count = refl;
+        places_count = c.push_reserved.ensures.len;
+      };
       starts = refl;
-      clauses_count = refl;
-      places_count = c.push_reserved.ensures.len;
     }

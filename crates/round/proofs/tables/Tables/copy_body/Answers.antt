@@ -8,7 +8,7 @@ use Rattle.round.proofs.tables.Tables.copy_body.Goals as goal
 pub loop-j-preserved : goal.loop-j-preserved
 loop-j-preserved g c =
     let v = c.loop-j.invariant in
-    let a = c.add_place.ensures in
+    let a = c.add_place.ensures.placed in
     let o = clause_at (g.S.Source.sheet c.args.source.now) c.args.i in (
       a.writing,
       (

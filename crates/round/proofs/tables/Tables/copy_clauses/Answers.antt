@@ -83,7 +83,7 @@ loop-k-preserved g c =
     let o = outcome_here s k w lt c.unwrap_or-o.result c.outcome.result c.outcome.ensures c.unwrap_or-o.ensures in
     let u = used_more s k w lt c.loop-k.used c.unwrap_or-n.result c.min.result c.unwrap_or-o.result v.1.1.1.1.1.1.1 n o c.min.ensures in
     let b = c.copy_body.ensures in
-    let e = c.end_clause.ensures in
+    let e = c.end_clause.ensures.ended in
     let same = same_clause s k w lt c.unwrap_or-o.result (unfinished (held_rows c.copy_body.new.self)) b.body o in (
       e.writing,
       (

@@ -16,12 +16,14 @@ returns c =
     let ie : vec_items c.push_reserved-2.new.self ≡ ss ++ length ps ∷ [] = c.push_reserved-2.ensures.items ∙ ap (λ (e : ℕ). ss ++ e ∷ []) end in
     let w : Writing (rows os ss ps) = c.requires.writing in
     record {
-      writing = subst₂ (λ (x y : List ℕ). Writing (rows x y ps)) (sym io) (sym ie) (writing_end os ss ps w o);
-      roomy = record { outcome_room = omega (arith, c.push_reserved.ensures.capacity, c.requires.roomy.outcome_room); start_room = omega (arith, c.push_reserved-2.ensures.capacity, c.requires.roomy.start_room); place_room = c.requires.roomy.place_room };
-      conditions = refl;
-      clauses = ap₂ (λ (x y : List ℕ). clauses_in (rows x y ps)) io ie ∙ clauses_end os ss ps w o;
-      body = ap₂ (λ (x y : List ℕ). unfinished (rows x y ps)) io ie ∙ body_end os ss ps w o;
+      ended = record {
+        writing = subst₂ (λ (x y : List ℕ). Writing (rows x y ps)) (sym io) (sym ie) (writing_end os ss ps w o);
+        roomy = record { outcome_room = omega (arith, c.push_reserved.ensures.capacity, c.requires.roomy.outcome_room); start_room = omega (arith, c.push_reserved-2.ensures.capacity, c.requires.roomy.start_room); place_room = c.requires.roomy.place_room };
+        conditions = refl;
+        clauses = ap₂ (λ (x y : List ℕ). clauses_in (rows x y ps)) io ie ∙ clauses_end os ss ps w o;
+        body = ap₂ (λ (x y : List ℕ). unfinished (rows x y ps)) io ie ∙ body_end os ss ps w o;
+        clauses_count = c.push_reserved.ensures.len;
+        places_count = refl;
+      };
       starts = c.push_reserved-2.ensures.items ∙ ap (λ (e : ℕ). ss ++ e ∷ []) c.len-end.ensures;
-      clauses_count = c.push_reserved.ensures.len;
-      places_count = refl;
     }
