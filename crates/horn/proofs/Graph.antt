@@ -3,7 +3,9 @@
 use Rattle.std.proofs.Common.{◌≡◌, ℕ, zero, suc, ◌≤◌, max, Bool, true, false, List, [], ◌∷◌, map, Some, None, sym, refl, ap, ◌∙◌, subst, arith}
 use Rattle.std.specs.List.{slice_get, AllByRecursion}
 use Rattle.std.proofs.ByRecursion.{All-weaker}
+use Rattle.std.specs.Option.{option_map}
 use Rattle.std.proofs.lemmas.Bool.{both_ways}
+use Rattle.std.proofs.lemmas.Option.{slice_get-map}
 use Rattle.horn.specs.Sheets.{all_of, Clause, Sheet, Lawful, clause_at}
 use Rattle.horn.specs.Pebblings.{InForce, Broken}
 use Rattle.horn.specs.Levels.{level, rank}
@@ -14,11 +16,6 @@ use Rattle.horn.proofs.Levels.{level_clause, level_mono, level_at, levels_stop, 
 use Rattle.horn.proofs.Entailment.{in_force_has, in_force_is, contradicted}
 
 -- From a level to the graph.
-
-nth_map : {X Y : Type 0} (f : X → Y) (xs : List X) (j : ℕ) (x : X) → slice_get xs j ≡ Some x → slice_get (map f xs) j ≡ Some (f x)
-nth_map f [] j x e = absurd (none_some e)
-nth_map f (y ∷ xs) zero x e = ap (λ z. Some (f z)) (some_inj e)
-nth_map f (y ∷ xs) (suc j) x e = nth_map f xs j x e
 
 nth_unmap : {X Y : Type 0} (f : X → Y) (xs : List X) (j : ℕ) (y : Y) → slice_get (map f xs) j ≡ Some y → (x : X) × (slice_get xs j ≡ Some x) × (y ≡ f x)
 nth_unmap f [] j y e = absurd (none_some e)
@@ -53,7 +50,7 @@ rule_sources s i q c e b o p = (λ h. there h.0 (nth_unmap condition c.body h.0 
 
     back : (p : Node) → Edge s p i (condition q) → Member p (map condition c.body)
     back p (of_fact d f a b') = absurd (b (ap (λ (z : Clause). z.body) (sym (same_clause s i c d e f)) ∙ a))
-    back p (of_rule {p = x} d j f a b') = (j, nth_map condition c.body j x (sym (ap (λ (z : Clause). slice_get z.body j) (same_clause s i c d e f)) ∙ a))
+    back p (of_rule {p = x} d j f a b') = (j, slice_get-map condition c.body j ∙ ap (option_map condition) (sym (ap (λ (z : Clause). slice_get z.body j) (same_clause s i c d e f)) ∙ a))
 
 -- the sources of the edges of a ban
 ban_sources : (s : Sheet) (i : ℕ) (c : Clause) → clause_at s i ≡ Some c → c.outcome ≡ None → Sources (Edge s) i falsity (map condition c.body)
@@ -63,7 +60,7 @@ ban_sources s i c e o p = (λ h. there h.0 (nth_unmap condition c.body h.0 p h.1
     there j r = subst (λ (x : Node). Edge s x i falsity) (sym r.2) (of_ban c j e r.1 o)
 
     back : (p : Node) → Edge s p i falsity → Member p (map condition c.body)
-    back p (of_ban {p = x} d j f a b') = (j, nth_map condition c.body j x (sym (ap (λ (z : Clause). slice_get z.body j) (same_clause s i c d e f)) ∙ a))
+    back p (of_ban {p = x} d j f a b') = (j, slice_get-map condition c.body j ∙ ap (option_map condition) (sym (ap (λ (z : Clause). slice_get z.body j) (same_clause s i c d e f)) ∙ a))
 
 -- a pebbling of length at most k
 abbrev Within : Sheet → Node → ℕ → Type 0

@@ -2,27 +2,24 @@
 -- Assumes nothing.
 use Rattle.std.proofs.Common.{◌≡◌, ℕ, zero, suc, ◌-◌, Bool, true, false, cond, ◌&&◌, ◌||◌, List, [], ◌∷◌, ◌++◌, length, get_or, Some, None, Option, sym, refl, ap, ◌∙◌, arith}
 use mathlib.Core.Path.{fun_ext}
-use Rattle.std.specs.List.{slice_get, AllByRecursion}
+use Rattle.std.specs.List.{AllByRecursion}
 use Rattle.std.proofs.ByRecursion.{All-weaker}
 use Rattle.std.proofs.lemmas.Bool.{both_ways, or_from}
+use Rattle.std.proofs.lemmas.Option.{slice_get_within}
 use Rattle.horn.specs.Sheets.{all_of, any_of, Clause, Sheet, gives, is, clause_at, outcome_of, body_of}
 use Rattle.horn.specs.Pebblings.{step_gives, given, Allowed, Steps, longest, lengths, lengths_after}
 use Rattle.horn.specs.Levels.{level}
 use Rattle.horn.specs.Claims
 use Rattle.horn.specs.Claims.{added}
-use Rattle.horn.proofs.Tests.{any_append, none_some}
+use Rattle.horn.proofs.Tests.{any_append}
+use Rattle.horn.proofs.Places.{nth_append_left}
 use Rattle.horn.proofs.Forced.{steps_ind, steps_push, given_push}
 use Rattle.horn.proofs.Levels.{lengths_push}
 
 -- the clauses of the first sheet keep their numbers
-nth_append : {X : Type 0} (xs ys : List X) (i : ℕ) (x : X) → slice_get xs i ≡ Some x → slice_get (xs ++ ys) i ≡ Some x
-nth_append [] ys i x e = absurd (none_some e)
-nth_append (y ∷ xs) ys zero x e = e
-nth_append (y ∷ xs) ys (suc i) x e = nth_append xs ys i x e
-
 pub clause_added : (s : Sheet) (cs : List Clause) (n : ℕ) (c : Clause) → clause_at s n ≡ Some c → clause_at (added s cs) n ≡ Some c
 clause_added s cs zero c e = e
-clause_added s cs (suc n) c e = nth_append s.clauses cs n c e
+clause_added s cs (suc n) c e = nth_append_left s.clauses cs n (slice_get_within s.clauses n c e) ∙ e
 
 record Same (s : Sheet) (cs : List Clause) (ns : List ℕ) : Type 0 where
   steps : Steps (added s cs) ns

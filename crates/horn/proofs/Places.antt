@@ -24,16 +24,17 @@ module _ {X : Type 0} where
 
 -- the clauses of a join
 module _ (a b : Sheet) (n i : ℕ) (e : n ≡ length a.clauses) (h : i < 65536) where
-  pub in_first : i ≤ n → clause_at a i ≡ clause_at (joined a b) i
+  pub in_first : i ≤ n → clause_at (joined a b) i ≡ clause_at a i
   in_first l = go i l h
     where
-      go : (j : ℕ) → j ≤ n → j < 65536 → clause_at a j ≡ clause_at (joined a b) j
+      go : (j : ℕ) → j ≤ n → j < 65536 → clause_at (joined a b) j ≡ clause_at a j
       go zero l h = refl
-      go (suc j) l h = sym (nth_take 65535 (a.clauses ++ b.clauses) j (omega arith) ∙ nth_append_left a.clauses b.clauses j (omega (arith, e)))
+      go (suc j) l h = nth_take 65535 (a.clauses ++ b.clauses) j (omega arith) ∙ nth_append_left a.clauses b.clauses j (omega (arith, e))
 
-  pub in_second : n < i → clause_at b (i - n) ≡ clause_at (joined a b) i
+  pub in_second : n < i → clause_at (joined a b) i ≡ clause_at b (i - n)
   in_second l =
       let k : ℕ = i - n - 1 in
       let f : i - n ≡ suc k = omega arith in
       let g : i ≡ suc (length a.clauses + k) = omega (arith, e) in
-      ap (clause_at b) f ∙ sym (ap (clause_at (joined a b)) g ∙ nth_take 65535 (a.clauses ++ b.clauses) (length a.clauses + k) (omega arith) ∙ nth_append_right a.clauses b.clauses k)
+      ap (clause_at (joined a b)) g ∙ nth_take 65535 (a.clauses ++ b.clauses) (length a.clauses + k) (omega arith)
+      ∙ nth_append_right a.clauses b.clauses k ∙ sym (ap (clause_at b) f)

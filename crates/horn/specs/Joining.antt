@@ -1,13 +1,18 @@
 -- Two sheets joined.
-use Rattle.std.specs.Prelude.{◌≤◌, max, ◌++◌, take}
+use Rattle.std.specs.Prelude.{◌≡◌, ℕ, ◌≤◌, max, ◌++◌, take, Some, None, Option}
 use Rattle.std.proofs.Common.{arith, length-take}
 use Rattle.std.proofs.ByRecursion.{All-append, All-take, All-weaker}
-use Rattle.horn.specs.Sheets.{Sheet, Clause, Condition, LawfulClause}
+use Rattle.horn.specs.Sheets.{Sheet, Clause, Condition, LawfulClause, clause_at}
 use Rattle.horn.specs.Sources.{LawfulSource}
 
 -- The first one's clauses, then the second's, cut after 65,535, and the greater number of conditions.
 abbrev pub joined : Sheet → Sheet → Sheet
 joined a b = record { top = max a.top b.top; clauses = take 65535 (a.clauses ++ b.clauses) }
+
+-- where clause i of a join comes from: it is the first sheet's, or the second one's clause k
+abbrev pub ComesFrom : Sheet → Sheet → ℕ → Option ℕ → Type 0
+ComesFrom a b i None = clause_at (joined a b) i ≡ clause_at a i
+ComesFrom a b i (Some k) = clause_at (joined a b) i ≡ clause_at b k
 
 -- a clause stays lawful on a sheet with more conditions
 clause_grows : (s t : Sheet) → s.top ≤ t.top → (c : Clause) → LawfulClause s c → LawfulClause t c

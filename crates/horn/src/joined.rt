@@ -1,5 +1,5 @@
 // Two sources, one after the other.
-ghost use Rattle.horn.specs.Joining.{joined, joined_lawful};
+ghost use Rattle.horn.specs.Joining.{joined, joined_lawful, ComesFrom};
 
 use crate::source::Source;
 
@@ -8,6 +8,16 @@ use crate::source::Source;
 pub struct Joined<A, B> {
     pub first: A,
     pub second: B,
+}
+
+impl<A: Source, B: Source> Joined<A, B> {
+    // Which of the second source's clauses clause i is, where it is not the first source's.
+    fn past_first(&self, i: u16) -> Option<u16>
+        ensures { ComesFrom (A.Source.sheet self.now.first) (B.Source.sheet self.now.second) i result }
+    {
+        let n = self.first.clauses();
+        if i <= n { None } else { Some(i - n) }
+    }
 }
 
 impl<A: Source, B: Source> Source for Joined<A, B> {
@@ -24,29 +34,23 @@ impl<A: Source, B: Source> Source for Joined<A, B> {
     }
 
     fn outcome(&self, i: u16) -> Option<u16> {
-        let n = self.first.clauses();
-        if i <= n {
-            self.first.outcome(i)
-        } else {
-            self.second.outcome(i - n)
+        match self.past_first(i) {
+            None => self.first.outcome(i),
+            Some(k) => self.second.outcome(k),
         }
     }
 
     fn body_len(&self, i: u16) -> Option<u16> {
-        let n = self.first.clauses();
-        if i <= n {
-            self.first.body_len(i)
-        } else {
-            self.second.body_len(i - n)
+        match self.past_first(i) {
+            None => self.first.body_len(i),
+            Some(k) => self.second.body_len(k),
         }
     }
 
     fn body_at(&self, i: u16, j: u16) -> Option<u16> {
-        let n = self.first.clauses();
-        if i <= n {
-            self.first.body_at(i, j)
-        } else {
-            self.second.body_at(i - n, j)
+        match self.past_first(i) {
+            None => self.first.body_at(i, j),
+            Some(k) => self.second.body_at(k, j),
         }
     }
 }

@@ -7,141 +7,101 @@ ghost use Rattle.horn.specs.Graph.{GraphInForce, GraphBroken, GraphContradicted,
 ghost use Rattle.horn.specs.Lawfulness.{LawfulTested, SatisfiableTested};
 
 // A choice that satisfies a sheet holds what is in force.
-pub fn forced_stands() -> u8
+pub fn forced_stands()
     ensures { Forced }
-{
-    0
-}
+{}
 
 // The conditions in force satisfy all facts and rules.
-pub fn closed_stands() -> u8
+pub fn closed_stands()
     ensures { Closed }
-{
-    0
-}
+{}
 
 // They are the least set that does.
-pub fn least_stands() -> u8
+pub fn least_stands()
     ensures { Least }
-{
-    0
-}
+{}
 
 // No choice satisfies a sheet exactly when a ban is broken.
-pub fn contradicted_stands() -> u8
+pub fn contradicted_stands()
     ensures { Contradicted }
-{
-    0
-}
+{}
 
 // Where some choice satisfies a sheet, in force is exactly held by every such choice.
-pub fn entailed_stands() -> u8
+pub fn entailed_stands()
     ensures { Entailed }
-{
-    0
-}
+{}
 
 // Where no choice satisfies a sheet, the computed ban is the lowest broken one.
-pub fn lowest_found_stands() -> u8
+pub fn lowest_found_stands()
     ensures { LowestFound }
-{
-    0
-}
+{}
 
 // A condition is in force exactly when the graph of the sheet pebbles its node from true.
-pub fn graph_in_force_stands() -> u8
+pub fn graph_in_force_stands()
     ensures { GraphInForce }
-{
-    0
-}
+{}
 
 // Some ban is broken exactly when the graph pebbles false.
-pub fn graph_broken_stands() -> u8
+pub fn graph_broken_stands()
     ensures { GraphBroken }
-{
-    0
-}
+{}
 
 // No choice satisfies a sheet exactly when the graph pebbles false.
-pub fn graph_contradicted_stands() -> u8
+pub fn graph_contradicted_stands()
     ensures { GraphContradicted }
-{
-    0
-}
+{}
 
 // The rank is the length of the shortest pebblings in the graph.
-pub fn graph_ranked_stands() -> u8
+pub fn graph_ranked_stands()
     ensures { GraphRanked }
-{
-    0
-}
+{}
 
 // Level k holds the conditions with a pebbling of length at most k.
-pub fn levelled_stands() -> u8
+pub fn levelled_stands()
     ensures { Levelled }
-{
-    0
-}
+{}
 
 // In force, as computed, is having a pebbling.
-pub fn decided_stands() -> u8
+pub fn decided_stands()
     ensures { Decided }
-{
-    0
-}
+{}
 
 // The rank of a condition in force is the length of its shortest pebblings.
-pub fn ranked_stands() -> u8
+pub fn ranked_stands()
     ensures { Ranked }
-{
-    0
-}
+{}
 
 // The explanation of a condition in force is a shortest pebbling of it.
-pub fn explained_stands() -> u8
+pub fn explained_stands()
     ensures { Explained }
-{
-    0
-}
+{}
 
 // It is the only list that fits the definition of an explanation.
-pub fn explaining_stands() -> u8
+pub fn explaining_stands()
     ensures { Explaining }
-{
-    0
-}
+{}
 
 // The test for lawful sheets decides it.
-pub fn lawful_tested_stands() -> u8
+pub fn lawful_tested_stands()
     ensures { LawfulTested }
-{
-    0
-}
+{}
 
 // Some choice satisfies a sheet exactly when the conditions in force do.
-pub fn satisfiable_tested_stands() -> u8
+pub fn satisfiable_tested_stands()
     ensures { SatisfiableTested }
-{
-    0
-}
+{}
 
 // The worked examples come out as computed by hand.
-pub fn worked_stands() -> u8
+pub fn worked_stands()
     ensures { Worked }
-{
-    0
-}
+{}
 
 // Clauses that are added keep every pebbling.
-pub fn growing_stands() -> u8
+pub fn growing_stands()
     ensures { Growing }
-{
-    0
-}
+{}
 
 // Bans that are added put nothing in force.
-pub fn bans_add_nothing_stands() -> u8
+pub fn bans_add_nothing_stands()
     ensures { BansAddNothing }
-{
-    0
-}
+{}
