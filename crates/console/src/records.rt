@@ -1,6 +1,7 @@
 // Records taken off the front of the input.
 ghost use Rattle.std.specs.Prelude.{◌≡◌, ◌+◌, ◌*◌, ◌<◌, ◌≤◌, length, take, drop, MatchOption};
-ghost use Rattle.console.specs.Taking.{Taken};
+ghost use Rattle.console.specs.Records.{mark};
+ghost use Rattle.console.specs.Taking.{Taken, meaning};
 
 // A record; its text is a part of the input.
 #[derive(Clone, Copy)]
@@ -9,6 +10,20 @@ pub(crate) enum Record<'a> {
     Show(&'a [u8]),
     Opening,
     Asking(u16),
+}
+
+impl Record<'_> {
+    // The two letters at which it is known.
+    pub(crate) fn mark(&self) -> &'static str
+        ensures { result.now ≡ mark (meaning self.now) }
+    {
+        match self {
+            Record::Network(_) => "NS",
+            Record::Show(_) => "SS",
+            Record::Opening => "OP",
+            Record::Asking(_) => "AS",
+        }
+    }
 }
 
 // A number of two bytes, the high one first.
