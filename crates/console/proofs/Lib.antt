@@ -1,4 +1,3 @@
-pub mod Parsing
 pub mod Once
 pub mod Answering
 pub mod Turns

@@ -15,7 +15,6 @@ use Rattle.round.proofs.Choosing.{determined}
 use Rattle.console.specs.Records.{Record, network, show, opening, asking, mark, bytes_of, all_bytes, Fitting, NoRecord, ParsedOnce}
 use Rattle.console.specs.Lines.{Reply, line}
 use Rattle.console.specs.Session.{State, Judging, Step, Session, done, step, ServedOnce, verdict_reply, kept, answer_reply, opened, ending, at_first}
-use Rattle.console.proofs.Parsing.{joined_bytes}
 
 -- the record at the front of the bytes, by its mark
 abbrev sheet_at : (List ℕ → Record) → List ℕ → Option (Record × List ℕ)
@@ -36,6 +35,10 @@ first (a ∷ b ∷ bs) =
     (cond (eqb a 83 && eqb b 83) (sheet_at show bs)
     (cond (eqb a 79 && eqb b 80) (Some (opening, bs))
     (cond (eqb a 65 && eqb b 83) (number_at asking bs) None)))
+
+-- a number from its two bytes
+joined_bytes : (n : ℕ) → 256 * (n / 256) + n % 256 ≡ n
+joined_bytes n = omega arith
 
 sheet_read : (f : List ℕ → Record) (t tail : List ℕ) → sheet_at f (length t / 256 ∷ length t % 256 ∷ (t ++ tail)) ≡ Some (f t, tail)
 sheet_read f t tail = rw (joined_bytes (length t), take_at t tail (length t) refl, drop_at t tail (length t) refl)

@@ -48,9 +48,9 @@ ended_here input [] out after st s n none e = record {
 }
 ended_here input (b ∷ bs) out after st s n none e = absurd (omega arith)
 
-pub broken_off : (input rest out after : List ℕ) (st : State) (offset : ℕ) → SoFar input rest out st → NoRecord rest → 0 < length rest → offset ≡ length input - length rest
+pub broken_off : (input rest out after : List ℕ) (st : State) (offset : ℕ) → SoFar input rest out st → NoRecord rest → (length rest ≡ 0 → ⊥) → offset ≡ length input - length rest
     → after ≡ out ++ line (codes "--") (refused in_record 15 (offset ∷ [])) → Served input after
-broken_off input [] out after st offset s n some at e = absurd (omega arith)
+broken_off input [] out after st offset s n some at e = absurd (some refl)
 broken_off input (b ∷ bs) out after st offset s n some at e =
     let l : offset ≡ length (all_bytes s.records) = omega (arith, ap length s.whole, length-append (all_bytes s.records) (b ∷ bs)) in
     record {

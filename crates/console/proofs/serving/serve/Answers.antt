@@ -1,5 +1,4 @@
-use Rattle.std.proofs.Common.{◌≡◌, ℕ, List, take, string_bytes, refl, ap, ◌∙◌, subst, arith}
-use Rattle.std.proofs.lemmas.Bool.Decides.{nat_tests}
+use Rattle.std.proofs.Common.{◌≡◌, ℕ, List, take, string_bytes, refl, ap, ◌∙◌, subst, true-eqb, false-eqb}
 use Rattle.std.proofs.lemmas.List.{take_min}
 use Rattle.console.specs.Serving.{desk_state}
 use Rattle.console.specs.Session.{Served}
@@ -24,6 +23,6 @@ returns c =
     let front : take c.min.result c.args.input.now ≡ take 48000 c.args.input.now = rw c.min.ensures (take_min 48000 c.args.input.now) in
     subst (λ (l : List ℕ). Served l (string_bytes c.if-not-is_empty.out)) front
     (elim c.if-not-is_empty.branch [
-      | then-not-is_empty+in_ok-push_line-2 w ↦ broken_off _ _ _ _ _ _ c.loop-taken.invariant c.in_default.ensures (grind (arith, nat_tests)) refl (ap string_bytes w.out-is ∙ w.in_ok-push_line-2.ensures)
-      | else-not-is_empty w ↦ ended_here _ _ _ _ _ c.loop-taken.invariant c.in_default.ensures (grind (arith, nat_tests)) (ap string_bytes w.out-is)
+      | then-not-is_empty+in_ok-push_line-2 w ↦ broken_off _ _ _ _ _ _ c.loop-taken.invariant c.in_default.ensures (false-eqb _ 0 w.if-not-is_empty.ensures) refl (ap string_bytes w.out-is ∙ w.in_ok-push_line-2.ensures)
+      | else-not-is_empty w ↦ ended_here _ _ _ _ _ c.loop-taken.invariant c.in_default.ensures (true-eqb _ 0 w.if-not-is_empty.ensures) (ap string_bytes w.out-is)
     ])
