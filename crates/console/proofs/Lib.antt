@@ -1,3 +1,3 @@
 pub mod Once
-pub mod Answering
+pub mod EmptyText
 pub mod Turns

@@ -1,8 +1,8 @@
 -- One record more, and the end of the input.
-use Rattle.std.proofs.Common.{◌≡◌, ℕ, ◌-◌, ◌<◌, List, [], ◌∷◌, ◌++◌, length, codes, sym, refl, ap, ◌∙◌, subst, append_assoc, arith, length-append}
+use Rattle.std.proofs.Common.{◌≡◌, ℕ, ◌-◌, List, [], ◌∷◌, ◌++◌, length, codes, sym, refl, ap, ◌∙◌, subst, append_assoc, arith, length-append}
 use Rattle.std.proofs.lemmas.List.{flat_map_more, append-nil}
 use Rattle.std.proofs.ByRecursion.{All-append}
-use Rattle.console.specs.Records.{Record, network, show, opening, asking, mark, bytes_of, all_bytes, Fitting, NoRecord}
+use Rattle.console.specs.Records.{Record, mark, bytes_of, all_bytes, Fitting, NoRecord}
 use Rattle.console.specs.Lines.{Reply, refused, in_record, line}
 use Rattle.console.specs.Session.{State, Session, done, step, Step, Served, at_first}
 use Rattle.console.specs.Serving.{SoFar}
@@ -27,13 +27,6 @@ one_more input rest tail out after st next r y s f e p w = record {
       ∙ ap (λ (l : List ℕ). l ++ tail) (flat_map_more bytes_of [] s.records r);
   session = subst (λ (l : List ℕ). Session at_first (s.records ++ (r ∷ [])) l next) (sym w) (session_more r y s.session p);
 }
-
--- a record has bytes, so that the rest falls
-pub rest_falls : (r : Record) (rest tail : List ℕ) → rest ≡ bytes_of r ++ tail → length tail < length rest
-rest_falls (network t) rest tail e = omega (arith, ap length e, length-append t tail)
-rest_falls (show t) rest tail e = omega (arith, ap length e, length-append t tail)
-rest_falls opening rest tail e = omega (arith, ap length e)
-rest_falls (asking n) rest tail e = omega (arith, ap length e)
 
 -- where the reading ends
 pub ended_here : (input rest out after : List ℕ) (st : State) → SoFar input rest out st → NoRecord rest → length rest ≡ 0 → after ≡ out → Served input after

@@ -1,8 +1,8 @@
 // What the console holds between records, and what it answers them.
 ghost use Rattle.std.specs.Prelude.{◌≡◌, IfOk};
 ghost use Rattle.text.specs.InPlace.{text_sheet};
-ghost use Rattle.console.specs.Layers.{reply_of};
 ghost use Rattle.console.specs.Records.{opening, asking};
+ghost use Rattle.console.specs.Replies.{reply_of};
 ghost use Rattle.console.specs.Serving.{desk_state};
 ghost use Rattle.console.specs.Session.{Step, at_first, kept, verdict_reply};
 ghost use Rattle.console.specs.Taking.{meaning};
@@ -17,9 +17,9 @@ use text::TextSheet;
 // The sheets of the last accepted network and show text, and the round.
 #[derive(Drop)]
 pub(crate) struct Desk<'a> {
-    pub(crate) network: TextSheet<'a>,
-    pub(crate) show: TextSheet<'a>,
-    pub(crate) round: Round,
+    network: TextSheet<'a>,
+    show: TextSheet<'a>,
+    round: Round,
 }
 
 // An accepted sheet takes the place of the one held.

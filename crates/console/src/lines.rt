@@ -2,12 +2,16 @@
 ghost use Rattle.std.specs.Prelude.{◌≡◌, ◌++◌, Some, string_bytes, OnOk};
 ghost use Rattle.console.specs.declared.lines.Refused.TheVariants.{Text, Round};
 ghost use Rattle.console.specs.Lines.{accepted, layer_name, line, optional};
-ghost use Rattle.console.specs.Layers.{layer_of, answer_numbers, refused_by, refused_number, refused_places, refused_reply, reply_of, reply_text};
+ghost use Rattle.console.specs.Layers.{layer_of};
+ghost use Rattle.console.specs.Replies.{answer_numbers, refused_by, refused_number, refused_place, refused_reply, reply_of, reply_text};
 
 use round::{Opened, Refusal};
 use std::alloc::AllocError;
 use std::fmt;
 use text::{Counts, Fault};
+
+// What a record is answered.
+pub(crate) type Reply = Result<Answer, Refused>;
 
 // What a record is answered, if it is not refused.
 #[derive(Clone, Copy)]
@@ -24,43 +28,23 @@ impl fmt::Display for Answer {
     ghost output = { λ a. Some (reply_text (accepted (answer_numbers a))) };
 
     fn fmt<W: fmt::Write>(&self, f: &mut fmt::Formatter<W>) -> fmt::Result {
-        match *self {
-            Answer::Sheet(
-                Counts {
-                    clauses,
-                    conditions,
-                    literals,
-                },
-            ) => { write!(f, "{clauses} {conditions} {literals}") }
-            Answer::Opening(
-                Opened {
-                    clauses,
-                    conditions,
-                    discharged,
-                },
-            ) => { write!(f, "{clauses} {conditions} {discharged}") }
-            Answer::Asking(in_force) => write!(f, "{}", u8::from(in_force)),
+        match self {
+            Answer::Sheet(sheet) => {
+                write!(
+                    f,
+                    "{} {} {}",
+                    sheet.clauses, sheet.conditions, sheet.literals
+                )
+            }
+            Answer::Opening(round) => {
+                write!(
+                    f,
+                    "{} {} {}",
+                    round.clauses, round.conditions, round.discharged
+                )
+            }
+            Answer::Asking(in_force) => write!(f, "{}", u8::from(*in_force)),
         }
-    }
-}
-
-// Where a refusal comes from.
-#[derive(Clone, Copy, Debug, PartialEq, Eq)]
-pub(crate) enum Layer {
-    Record,
-    Text,
-    Round,
-}
-
-impl fmt::Display for Layer {
-    ghost output = { λ l. Some (layer_name (layer_of l)) };
-
-    fn fmt<W: fmt::Write>(&self, f: &mut fmt::Formatter<W>) -> fmt::Result {
-        f.write_str(match self {
-            Layer::Record => "record",
-            Layer::Text => "text",
-            Layer::Round => "round",
-        })
     }
 }
 
@@ -112,7 +96,7 @@ impl Refused {
 
     // The place or the ban that is reported, if any.
     fn place(&self) -> Option<usize>
-        ensures { optional result ≡ refused_places self.now }
+        ensures { optional result ≡ refused_place self.now }
     {
         match *self {
             Refused::Record(offset) => Some(offset),
@@ -135,8 +119,25 @@ impl fmt::Display for Refused {
     }
 }
 
-// What a record is answered.
-pub(crate) type Reply = Result<Answer, Refused>;
+// Where a refusal comes from.
+#[derive(Clone, Copy, Debug, PartialEq, Eq)]
+pub(crate) enum Layer {
+    Record,
+    Text,
+    Round,
+}
+
+impl fmt::Display for Layer {
+    ghost output = { λ l. Some (layer_name (layer_of l)) };
+
+    fn fmt<W: fmt::Write>(&self, f: &mut fmt::Formatter<W>) -> fmt::Result {
+        f.write_str(match self {
+            Layer::Record => "record",
+            Layer::Text => "text",
+            Layer::Round => "round",
+        })
+    }
+}
 
 // Adds the line of a record's reply.
 pub(crate) fn push_line(out: &mut String, mark: &str, reply: Reply) -> Result<(), AllocError>

@@ -2,7 +2,7 @@ use Rattle.std.proofs.Common.{◌≡◌, ℕ, List, take, string_bytes, refl, ap
 use Rattle.std.proofs.lemmas.List.{take_min}
 use Rattle.console.specs.Serving.{desk_state}
 use Rattle.console.specs.Session.{Served}
-use Rattle.console.specs.Layers.{reply_of}
+use Rattle.console.specs.Replies.{reply_of}
 use Rattle.console.specs.Taking.{meaning}
 use Rattle.console.proofs.Turns.{none_yet, one_more, ended_here, broken_off}
 use Rattle.console.proofs.serving.serve.Goals.{then-not-is_empty+in_ok-push_line-2, else-not-is_empty}
