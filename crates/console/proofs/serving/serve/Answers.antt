@@ -1,6 +1,5 @@
 use Rattle.std.proofs.Common.{◌≡◌, ℕ, List, take, string_bytes, refl, ap, ◌∙◌, subst, true-eqb, false-eqb}
 use Rattle.std.proofs.lemmas.List.{take_min}
-use Rattle.console.specs.Serving.{desk_state}
 use Rattle.console.specs.Session.{Served}
 use Rattle.console.specs.Replies.{reply_of}
 use Rattle.console.specs.Taking.{meaning}
@@ -10,12 +9,12 @@ use Rattle.console.proofs.serving.serve.Goals as goal
 
 pub loop-taken-init : goal.loop-taken-init
 loop-taken-init c =
-    rw c.new-out.ensures.bytes (none_yet _ (desk_state c.in_ok-desk.desk) c.in_ok-desk.ensures)
+    rw c.new-out.ensures.bytes (none_yet _ c.in_ok-desk.desk c.in_ok-desk.ensures)
 
 pub loop-taken-preserved : goal.loop-taken-preserved
 loop-taken-preserved c =
     one_more _ _ c.in-Some.tail.now _ _
-    (desk_state c.loop-taken.desk) (desk_state c.answer.new.self) (meaning c.in-Some.taken) (reply_of c.in_ok-reply.reply)
+    c.loop-taken.desk c.answer.new.self (meaning c.in-Some.taken) (reply_of c.in_ok-reply.reply)
     c.loop-taken.invariant c.in-Some.ensures.0 c.in-Some.ensures.1 c.in_ok-reply.ensures (rw (← c.mark.ensures) c.in_ok-push_line.ensures)
 
 pub returns : goal.returns
