@@ -4,7 +4,7 @@ use Rattle.std.proofs.lemmas.List.{flat_map_more, append-nil}
 use Rattle.std.proofs.ByRecursion.{All-append}
 use Rattle.console.specs.Records.{Record, mark, bytes_of, all_bytes, Fitting, NoRecord}
 use Rattle.console.specs.Lines.{Reply, refused, in_record, line}
-use Rattle.console.specs.Session.{State, Session, done, step, Step, Served, at_first}
+use Rattle.console.specs.Session.{State, Session, done, step, Step, Served, at_first, ending}
 use Rattle.console.specs.Serving.{SoFar}
 
 -- a session and one step more
@@ -29,16 +29,19 @@ one_more input rest tail out after st next r y s f e p w = record {
 }
 
 -- where the reading ends
-pub ended_here : (input rest out after : List ℕ) (st : State) → SoFar input rest out st → NoRecord rest → length rest ≡ 0 → after ≡ out → Served input after
-ended_here input [] out after st s n none e = record {
+served_at : (input rest out after : List ℕ) (st : State) (s : SoFar input rest out st) → NoRecord rest → after ≡ out ++ ending (length (all_bytes s.records)) rest → Served input after
+served_at input rest out after st s n e = record {
   records = s.records;
-  rest = [];
+  rest = rest;
   lines = out;
   last = st;
   parsed = record { fitting = s.fitting; whole = s.whole; ended = n };
   session = s.session;
-  whole = e ∙ sym (append-nil out);
+  whole = e;
 }
+
+pub ended_here : (input rest out after : List ℕ) (st : State) → SoFar input rest out st → NoRecord rest → length rest ≡ 0 → after ≡ out → Served input after
+ended_here input [] out after st s n none e = served_at input [] out after st s n (e ∙ sym (append-nil out))
 ended_here input (b ∷ bs) out after st s n none e = absurd (omega arith)
 
 pub broken_off : (input rest out after : List ℕ) (st : State) (offset : ℕ) → SoFar input rest out st → NoRecord rest → (length rest ≡ 0 → ⊥) → offset ≡ length input - length rest
@@ -46,12 +49,4 @@ pub broken_off : (input rest out after : List ℕ) (st : State) (offset : ℕ) �
 broken_off input [] out after st offset s n some at e = absurd (some refl)
 broken_off input (b ∷ bs) out after st offset s n some at e =
     let l : offset ≡ length (all_bytes s.records) = omega (arith, ap length s.whole, length-append (all_bytes s.records) (b ∷ bs)) in
-    record {
-      records = s.records;
-      rest = b ∷ bs;
-      lines = out;
-      last = st;
-      parsed = record { fitting = s.fitting; whole = s.whole; ended = n };
-      session = s.session;
-      whole = e ∙ ap (λ (k : ℕ). out ++ line (codes "--") (refused in_record 15 (k ∷ []))) l;
-    }
+    served_at input (b ∷ bs) out after st s n (e ∙ ap (λ (k : ℕ). out ++ ending k (b ∷ bs)) l)

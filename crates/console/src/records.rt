@@ -31,6 +31,7 @@ pub(crate) fn take_record(input: &[u8]) -> Option<(Record<'_>, &[u8])>
     ensures { Taken input.now result }
 {
     match input {
+        // One arm for both sheets would have to match the first letter again.
         [b'N', b'S', rest @ ..] => {
             let (text, rest) = take_text(rest)?;
             Some((Record::Network(text), rest))
