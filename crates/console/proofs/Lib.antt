@@ -1,5 +1,3 @@
-pub mod Parsing
-pub mod Writing
 pub mod Once
-pub mod Answering
+pub mod EmptyText
 pub mod Turns

@@ -2,6 +2,7 @@
 use Rattle.std.proofs.Common.{◌≡◌, ℕ, ◌+◌, ◌*◌, ◌/◌, ◌%◌, ◌≤◌, cond, ◌&&◌, eqb, List, [], ◌∷◌, ◌++◌, length, take, drop, Some, None, Ok, Err, Option, Result, unwrap_or, sym, refl, ap, ◌∙◌, subst, append_assoc, arith}
 use Rattle.std.specs.List.{AllByRecursion}
 use Rattle.std.proofs.lemmas.List.{take_at, drop_at}
+use Rattle.std.proofs.lemmas.Nat.{div-add-mod'}
 use Rattle.horn.specs.Sheets.{Sheet}
 use Rattle.horn.specs.Joining.{joined}
 use Rattle.text.specs.declared.verdict.Counts.{Counts}
@@ -15,18 +16,17 @@ use Rattle.round.proofs.Choosing.{determined}
 use Rattle.console.specs.Records.{Record, network, show, opening, asking, mark, bytes_of, all_bytes, Fitting, NoRecord, ParsedOnce}
 use Rattle.console.specs.Lines.{Reply, line}
 use Rattle.console.specs.Session.{State, Judging, Step, Session, done, step, ServedOnce, verdict_reply, kept, answer_reply, opened, ending, at_first}
-use Rattle.console.proofs.Parsing.{joined_bytes}
 
 -- the record at the front of the bytes, by its mark
 abbrev sheet_at : (List ℕ → Record) → List ℕ → Option (Record × List ℕ)
 sheet_at f [] = None
 sheet_at f (hi ∷ []) = None
-sheet_at f (hi ∷ lo ∷ bs) = Some (f (take (256 * hi + lo) bs), drop (256 * hi + lo) bs)
+sheet_at f (hi ∷ lo ∷ bs) = Some (f (take (hi * 256 + lo) bs), drop (hi * 256 + lo) bs)
 
 abbrev number_at : (ℕ → Record) → List ℕ → Option (Record × List ℕ)
 number_at f [] = None
 number_at f (hi ∷ []) = None
-number_at f (hi ∷ lo ∷ bs) = Some (f (256 * hi + lo), bs)
+number_at f (hi ∷ lo ∷ bs) = Some (f (hi * 256 + lo), bs)
 
 abbrev first : List ℕ → Option (Record × List ℕ)
 first [] = None
@@ -38,13 +38,13 @@ first (a ∷ b ∷ bs) =
     (cond (eqb a 65 && eqb b 83) (number_at asking bs) None)))
 
 sheet_read : (f : List ℕ → Record) (t tail : List ℕ) → sheet_at f (length t / 256 ∷ length t % 256 ∷ (t ++ tail)) ≡ Some (f t, tail)
-sheet_read f t tail = rw (joined_bytes (length t), take_at t tail (length t) refl, drop_at t tail (length t) refl)
+sheet_read f t tail = rw (div-add-mod' (length t) 256, take_at t tail (length t) refl, drop_at t tail (length t) refl)
 
 first_read : (r : Record) (tail : List ℕ) → first (bytes_of r ++ tail) ≡ Some (r, tail)
 first_read (network t) tail = sheet_read network t tail
 first_read (show t) tail = sheet_read show t tail
 first_read opening tail = refl
-first_read (asking n) tail = rw (joined_bytes n)
+first_read (asking n) tail = rw (div-add-mod' n 256)
 
 front_once : (r q : Record) (a b : List ℕ) → bytes_of r ++ a ≡ bytes_of q ++ b → (r ≡ q) × (a ≡ b)
 front_once r q a b e =

@@ -1,7 +1,6 @@
 // The console: all input bytes to all output bytes.
 #![tactic(auto)]
 
-mod answers;
 mod desk;
 mod lines;
 mod records;

@@ -1,80 +1,150 @@
-// The lines that the console prints.
-ghost use Rattle.std.specs.Prelude.{◌≡◌, ◌∷◌, ◌++◌, string_bytes, decimal, OnOk};
-ghost use Rattle.console.specs.Lines.{accepted, refused, numbers, optional, line, layer_name};
+// What records are answered, and the lines that say it.
+ghost use Rattle.std.specs.Prelude.{◌≡◌, ◌++◌, Some, string_bytes, OnOk};
+ghost use Rattle.console.specs.declared.lines.Refused.TheVariants.{Text, Round};
+ghost use Rattle.console.specs.Lines.{accepted, layer_name, line, optional};
 ghost use Rattle.console.specs.Layers.{layer_of};
+ghost use Rattle.console.specs.Replies.{answer_numbers, refused_by, refused_number, refused_place, refused_reply, reply_of, reply_text};
 
-use std::alloc::{AllocError, Global};
+use round::{Opened, Refusal};
+use std::alloc::AllocError;
+use std::fmt;
+use text::{Counts, Fault};
+
+// What a record is answered.
+pub(crate) type Reply = Result<Answer, Refused>;
+
+// What a record is answered, if it is not refused.
+#[derive(Clone, Copy)]
+pub(crate) enum Answer {
+    // The counts of an accepted sheet.
+    Sheet(Counts),
+    // What the opening answered.
+    Opening(Opened),
+    // Whether the condition is in force.
+    Asking(bool),
+}
+
+impl fmt::Display for Answer {
+    ghost output = { λ a. Some (reply_text (accepted (answer_numbers a))) };
+
+    fn fmt<W: fmt::Write>(&self, f: &mut fmt::Formatter<W>) -> fmt::Result {
+        match self {
+            Answer::Sheet(sheet) => {
+                write!(
+                    f,
+                    "{} {} {}",
+                    sheet.clauses, sheet.conditions, sheet.literals
+                )
+            }
+            Answer::Opening(round) => {
+                write!(
+                    f,
+                    "{} {} {}",
+                    round.clauses, round.conditions, round.discharged
+                )
+            }
+            Answer::Asking(in_force) => write!(f, "{}", u8::from(*in_force)),
+        }
+    }
+}
+
+// Why a record is refused.
+#[derive(Clone, Copy)]
+pub(crate) enum Refused {
+    // No record begins at this offset.
+    Record(usize),
+    Text(Fault),
+    Round(Refusal),
+}
+
+impl From<Fault> for Refused {
+    ghost from_gives = { λ f r. r ≡ Text f };
+
+    fn from(fault: Fault) -> Refused {
+        Refused::Text(fault)
+    }
+}
+
+impl From<Refusal> for Refused {
+    ghost from_gives = { λ e r. r ≡ Round e };
+
+    fn from(refusal: Refusal) -> Refused {
+        Refused::Round(refusal)
+    }
+}
+
+impl Refused {
+    fn layer(&self) -> Layer
+        ensures { layer_of result ≡ refused_by self.now }
+    {
+        match self {
+            Refused::Record(_) => Layer::Record,
+            Refused::Text(_) => Layer::Text,
+            Refused::Round(_) => Layer::Round,
+        }
+    }
+
+    fn number(&self) -> u8
+        ensures { result ≡ refused_number self.now }
+    {
+        match self {
+            Refused::Record(_) => 15,
+            Refused::Text(fault) => fault.number(),
+            Refused::Round(refusal) => refusal.number(),
+        }
+    }
+
+    // The place or the ban that is reported, if any.
+    fn place(&self) -> Option<usize>
+        ensures { optional result ≡ refused_place self.now }
+    {
+        match *self {
+            Refused::Record(offset) => Some(offset),
+            Refused::Text(fault) => fault.place(),
+            Refused::Round(Refusal::Contradiction(ban)) => Some(ban.into()),
+            Refused::Round(_) => None,
+        }
+    }
+}
+
+impl fmt::Display for Refused {
+    ghost output = { λ r. Some (reply_text (refused_reply r)) };
+
+    fn fmt<W: fmt::Write>(&self, f: &mut fmt::Formatter<W>) -> fmt::Result {
+        write!(f, "{} {}", self.layer(), self.number())?;
+        match self.place() {
+            Some(place) => write!(f, " {place}"),
+            None => Ok(()),
+        }
+    }
+}
 
 // Where a refusal comes from.
-#[derive(Clone, Copy)]
+#[derive(Clone, Copy, Debug, PartialEq, Eq)]
 pub(crate) enum Layer {
     Record,
     Text,
     Round,
 }
 
-impl Layer {
-    fn name(self) -> &'static str
-        ensures { result.now ≡ layer_name (layer_of self) }
-    {
-        match self {
+impl fmt::Display for Layer {
+    ghost output = { λ l. Some (layer_name (layer_of l)) };
+
+    fn fmt<W: fmt::Write>(&self, f: &mut fmt::Formatter<W>) -> fmt::Result {
+        f.write_str(match self {
             Layer::Record => "record",
             Layer::Text => "text",
             Layer::Round => "round",
-        }
+        })
     }
 }
 
-// Adds a space and a number.
-fn push_number(heap: Global, out: &mut String, n: usize) -> Result<(), AllocError>
-    ensures { OnOk result (string_bytes out.new ≡ string_bytes out.old ++ (32 ∷ decimal n)) }
+// Adds the line of a record's reply.
+pub(crate) fn push_line(out: &mut String, mark: &str, reply: Reply) -> Result<(), AllocError>
+    ensures { OnOk result (string_bytes out.new ≡ string_bytes out.old ++ line mark.now (reply_of reply)) }
 {
-    let text = format!(in heap; " {n}")?;
-    out.push_str(text.as_str())
-}
-
-// Adds a space and a place or ban, if there is one.
-fn push_place(heap: Global, out: &mut String, place: Option<usize>) -> Result<(), AllocError>
-    ensures { OnOk result (string_bytes out.new ≡ string_bytes out.old ++ numbers (optional place)) }
-{
-    match place {
-        Some(p) => push_number(heap, out, p),
-        None => Ok(()),
+    match reply {
+        Ok(answer) => writeln!(out, "{mark} ok {answer}"),
+        Err(refused) => writeln!(out, "{mark} no {refused}"),
     }
-}
-
-// Adds the line of an answer: its mark, ` ok` and the numbers.
-pub(crate) fn accept(
-    heap: Global,
-    out: &mut String,
-    mark: &str,
-    answer: &[u16],
-) -> Result<(), AllocError>
-    ensures { OnOk result (string_bytes out.new ≡ string_bytes out.old ++ line mark.now (accepted answer.now)) }
-{
-    out.push_str(mark)?;
-    out.push_str(" ok")?;
-    for n in answer {
-        push_number(heap, out, *n as usize)?;
-    }
-    out.push_str("\n")
-}
-
-// Adds the line of a refusal: its mark, ` no`, where it comes from, its number, and the place or ban that it names.
-pub(crate) fn refuse(
-    heap: Global,
-    out: &mut String,
-    mark: &str,
-    layer: Layer,
-    number: u8,
-    place: Option<usize>,
-) -> Result<(), AllocError>
-    ensures { OnOk result (string_bytes out.new ≡ string_bytes out.old ++ line mark.now (refused (layer_of layer) number (optional place))) }
-{
-    out.push_str(mark)?;
-    out.push_str(" no ")?;
-    out.push_str(layer.name())?;
-    push_number(heap, out, number as usize)?;
-    push_place(heap, out, place)?;
-    out.push_str("\n")
 }

@@ -3,15 +3,11 @@ ghost use Rattle.console.specs.Records.{ParsedOnce};
 ghost use Rattle.console.specs.Session.{ServedOnce};
 
 // An input has at most one reading as records.
-pub fn parsed_once_stands() -> u8
+pub fn parsed_once_stands()
     ensures { ParsedOnce }
-{
-    0
-}
+{}
 
 // An input has at most one output.
-pub fn served_once_stands() -> u8
+pub fn served_once_stands()
     ensures { ServedOnce }
-{
-    0
-}
+{}

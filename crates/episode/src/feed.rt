@@ -7,9 +7,8 @@ pub(crate) fn is_set(words: &[u32], p: u16) -> bool
     requires { 1 ≤ p }
     ensures { MatchBool result (bit_of words.now p ≡ 1) (bit_of words.now p ≡ 0) }
 {
-    let at = (p - 1) as usize / 32;
-    if at >= words.len() {
-        return false;
-    }
-    words[at] / 2u32.pow(u32::from((p - 1) % 32)) % 2 == 1
+    let bit = usize::from(p - 1);
+    words
+        .get(bit / 32)
+        .is_some_and(|word| word >> (bit % 32) & 1 == 1)
 }

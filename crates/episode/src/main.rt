@@ -2,7 +2,7 @@
 // round and prints what it did.
 #![tactic(auto)]
 
-use anyhow::anyhow;
+use anyhow::Context;
 use horn::joined::Joined;
 use horn::source::Source;
 use round::{Opened, Refusal, Round};
@@ -18,14 +18,13 @@ fn main(rt: HostRuntime) -> anyhow::Result<()> {
 }
 
 fn run(rt: &HostRuntime) -> anyhow::Result<()> {
-    let mut args = env::args(rt)?;
-    let _program = args.next();
-    let Some(network_path) = args.next() else {
-        return Err(anyhow!("two files are wanted: the network's sheet, then the show's"));
-    };
-    let Some(show_path) = args.next() else {
-        return Err(anyhow!("a second file is wanted: the show's sheet"));
-    };
+    let mut args = env::args(rt)?.skip(1);
+    let network_path = args.next().context(
+        "two files are wanted: the network's sheet, then the show's",
+    )?;
+    let show_path = args
+        .next()
+        .context("a second file is wanted: the show's sheet")?;
     let network_file = fs::read(rt, network_path.as_str())?;
     let show_file = fs::read(rt, show_path.as_str())?;
     episode(
@@ -62,14 +61,10 @@ fn judged(rt: &HostRuntime, name: &str, text: &[u8], sheet: &TextSheet<'_>) -> i
     rt.stdout().write_all(text)?;
     println!(rt; "")?;
     match sheet.verdict() {
-        Ok(counts) => {
-            let clauses = counts.clauses;
-            let conditions = counts.conditions;
-            let literals = counts.literals;
-            println!(rt;
-                "  good: clauses {clauses}, conditions up to P{conditions}, literals {literals}"
-            )
-        }
+        Ok(counts) => println!(rt;
+            "  good: clauses {}, conditions up to P{}, literals {}",
+            counts.clauses, counts.conditions, counts.literals
+        ),
         Err(fault) => refused(rt, fault),
     }
 }
@@ -90,11 +85,9 @@ fn refused(rt: &HostRuntime, fault: Fault) -> io::Result<()> {
 
 // Prints what an accepted opening answered.
 fn opened(rt: &HostRuntime, answer: Opened) -> io::Result<()> {
-    let clauses = answer.clauses;
-    let conditions = answer.conditions;
-    let discharged = answer.discharged;
     println!(rt;
-        "Opened on both, the network's clauses first: clauses {clauses}, conditions {conditions}, body places in force {discharged}"
+        "Opened on both, the network's clauses first: clauses {}, conditions {}, body places in force {}",
+        answer.clauses, answer.conditions, answer.discharged
     )
 }
 
@@ -119,7 +112,7 @@ fn published(rt: &HostRuntime, round: &Round) -> io::Result<()> {
     };
     let conditions = round.conditions();
     print!(rt; "The feed, {count} of {conditions} conditions in force:")?;
-    for p in 1..conditions + 1 {
+    for p in 1..=conditions {
         if feed::is_set(&roll, p) {
             print!(rt; " P{p}")?;
         }

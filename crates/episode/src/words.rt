@@ -14,8 +14,5 @@ pub(crate) fn of_fault(fault: Fault) -> &'static str {
 
 // A text without the line end that editors put after it.
 pub(crate) fn without_line_end(text: &[u8]) -> &[u8] {
-    match text {
-        [body @ .., b'\n'] => body,
-        _ => text,
-    }
+    text.strip_suffix(b"\n").unwrap_or(text)
 }

@@ -1,5 +1,5 @@
 use Rattle.text.specs.InPlace.{text_sheet}
-use Rattle.console.proofs.Answering.{nothing_meant}
+use Rattle.console.proofs.EmptyText.{nothing_meant}
 use Rattle.console.proofs.desk.Desk.new.Goals as goal
 
 pub returns : goal.returns
