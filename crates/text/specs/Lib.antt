@@ -1,6 +1,7 @@
 pub mod Grammar
 pub mod Judging
 pub mod Verdicts
+pub mod Words
 pub mod Accepted
 pub mod States
 pub mod Limits
