@@ -6,5 +6,6 @@ pub mod Accepted
 pub mod States
 pub mod Limits
 pub mod Reading
+pub mod Literals
 pub mod InPlace
 pub mod Examples

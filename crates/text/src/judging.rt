@@ -1,7 +1,7 @@
 // Judging a text.
 ghost use Rattle.text.specs.Verdicts.{Judged};
 
-use crate::limits::Reader;
+use crate::limits::limits;
 use crate::states::outside_at;
 use crate::verdict::{Counts, Fault};
 use horn::limits::MAX_TEXT;
@@ -14,8 +14,8 @@ pub fn judge(text: &[u8]) -> Result<Counts, Fault>
         return Err(Fault::TooLong);
     }
     let outside = outside_at(text);
-    let reader = Reader { bytes: text };
-    let counts = reader.limits(outside.unwrap_or(text.len()))?;
+    let end = outside.unwrap_or(text.len());
+    let counts = limits(text, end)?;
     match outside {
         None => Ok(counts),
         Some(place) => Err(Fault::Outside(place)),

@@ -1,0 +1,20 @@
+use Rattle.std.proofs.Common.{◌≡◌, subst, arith}
+use Rattle.std.proofs.lemmas.Result.{err_from_is_err_and}
+use Rattle.text.specs.Limits.{Clear, Counted, First}
+use Rattle.text.proofs.Counting.{counted}
+use Rattle.text.proofs.limits.limits.Goals as goal
+
+pub returns-in_err-step : goal.returns-in_err-step
+returns-in_err-step c =
+    let pass = c.loop.pass in
+    let r = err_from_is_err_and c.from_residual.result c.from_residual.ensures.1 in
+    rw (r.1, r.2)
+    (subst (λ s. First s c.args.end c.in_err-step.field-0.0) c.loop.invariant.0 (record { at = pass.place; within = omega arith; is = c.in_err-step.ensures.lowest; clear = pass.clear }))
+
+pub returns : goal.returns
+returns c =
+    let pass = c.loop.pass in
+    let e : pass.place ≡ c.args.end = omega arith in
+    subst (λ i. Clear c.args.text.now i × Counted c.args.text.now i pass.counts) e
+    (subst (λ s. Clear s pass.place × Counted s pass.place pass.counts) c.loop.invariant.0
+    (pass.clear, counted pass.text.now pass.place pass.counts pass.clauses pass.literals pass.greatest pass.low))
