@@ -1,11 +1,10 @@
 -- The places where the clauses of a text start.
-use Rattle.std.proofs.Common.{◌≡◌, ℕ, zero, suc, ◌+◌, ◌<◌, ◌≤◌, true, false, eqb, ltb, List, [], ◌∷◌, ◌++◌, length, get_or, drop, Some, None, Option, sym, refl, ap, ◌∙◌, subst, ⊎_elim, arith, length-drop, ltb-false, ltb-true}
+use Rattle.std.proofs.Common.{◌≡◌, ℕ, zero, suc, ◌+◌, ◌<◌, ◌≤◌, true, false, eqb, ltb, List, [], ◌∷◌, length, get_or, drop, Some, None, Option, sym, refl, ap, ◌∙◌, subst, ⊎_elim, arith, length-drop, ltb-false, ltb-true}
 use Rattle.std.specs.List.{slice_get}
-use Rattle.std.proofs.lemmas.List.{drop-drop, append_assoc, length-append}
+use Rattle.std.proofs.lemmas.List.{drop-drop}
 use Rattle.std.proofs.lemmas.Option.{slice_get-get_or, slice_get_past}
 use Rattle.std.proofs.lemmas.Bool.{cases_Bool}
 use Rattle.horn.specs.Sheets.{Clause, clause_at}
-use Rattle.text.proofs.Scan.{starts_open}
 use Rattle.text.specs.Reading.{clause_in, clauses_in, starts_in, sheet_in, Opened}
 
 pub same_length : (i : ℕ) (s : List ℕ) → length (starts_in i s) ≡ length (clauses_in s)
@@ -46,11 +45,3 @@ module _ (s xs : List ℕ) (kept : xs ≡ starts_in 0 s) (i n : ℕ) (e : i ≡ 
 
   pub kept_some : (p : ℕ) → true ≡ ltb n (length xs) → p ≡ get_or xs n p → Opened s i (Some p)
   kept_some p within f = rw e (opened s n (Some p) (sym (ap (λ ys. slice_get ys n) kept) ∙ (slice_get-get_or xs n p (ltb-true n (length xs) (sym within)) ∙ ap Some (sym f))))
-
--- one sign ( more is kept
-pub kept_more : (s : List ℕ) (p : ℕ) (xs ys : List ℕ) → p < length s → get_or s p 0 ≡ 40 → xs ++ starts_in p (drop p s) ≡ starts_in 0 s → ys ≡ xs ++ p ∷ [] → ys ++ starts_in (p + 1) (drop (p + 1) s) ≡ starts_in 0 s
-kept_more s p xs ys l e h f = ap (λ zs. zs ++ starts_in (p + 1) (drop (p + 1) s)) f ∙ (append_assoc xs (p ∷ []) (starts_in (p + 1) (drop (p + 1) s)) ∙ (sym (ap (λ zs. xs ++ zs) (starts_open s p l e)) ∙ h))
-
--- there is room for it
-pub kept_room : (s : List ℕ) (p : ℕ) (xs : List ℕ) → p < length s → get_or s p 0 ≡ 40 → xs ++ starts_in p (drop p s) ≡ starts_in 0 s → length xs < length (starts_in 0 s)
-kept_room s p xs l e h = omega (arith, sym (length-append xs (starts_in p (drop p s))) ∙ ap length h, ap length (starts_open s p l e))

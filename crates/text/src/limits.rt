@@ -28,25 +28,6 @@ struct Pass<'a> {
     ghost only: { (n : ℕ) → slice_index_or body n false ≡ true → ∥ ((j : ℕ) × Held text.now place n j) ∥₁ },
 }
 
-impl<'a> Pass<'a> {
-    fn new(text: &'a [u8]) -> Pass<'a>
-        requires { length text.now ≤ 60000 }
-        ensures text { result.text.now ≡ text.now }
-        ensures start { result.place ≡ 0 }
-    {
-        Pass {
-            text,
-            place: 0,
-            counts: Counts {
-                clauses: 0,
-                conditions: 0,
-                literals: 0,
-            },
-            body: ConditionSet::new(),
-        }
-    }
-}
-
 impl Pass<'_> {
     fn rest(&self) -> &[u8]
         ensures { result.now ≡ drop self.now.place self.now.text.now }
@@ -144,7 +125,12 @@ pub(crate) fn limits(text: &[u8], end: usize) -> Result<Counts, Fault>
     requires short { length text.now ≤ 60000 }
     ensures { Limits text.now end result }
 {
-    let mut pass = Pass::new(text);
+    let mut pass = Pass {
+        text,
+        place: 0,
+        counts: Counts::default(),
+        body: ConditionSet::new(),
+    };
     for _ in 0..end {
         pass.step()?;
     }

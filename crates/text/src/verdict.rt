@@ -7,7 +7,7 @@ use std::error::Error;
 use std::fmt;
 
 // The numbers of a good text's clauses and literals, and its greatest condition.
-#[derive(Clone, Copy, PartialEq, Eq, Debug)]
+#[derive(Clone, Copy, PartialEq, Eq, Debug, Default)]
 pub struct Counts {
     pub clauses: u16,
     pub conditions: u16,

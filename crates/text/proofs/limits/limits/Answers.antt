@@ -1,8 +1,26 @@
-use Rattle.std.proofs.Common.{◌≡◌, subst, arith}
+use Rattle.std.proofs.Common.{◌≡◌, sym, subst, rules, arith}
 use Rattle.std.proofs.lemmas.Result.{err_from_is_err_and}
 use Rattle.text.specs.Limits.{Clear, Counted, First}
 use Rattle.text.proofs.Counting.{counted}
+use Rattle.text.proofs.Marks.{Marked, marked_start}
 use Rattle.text.proofs.limits.limits.Goals as goal
+
+pub invariant_of-pass : goal.invariant_of-pass
+invariant_of-pass c =
+    let s = c.args.text.now in
+    let m = subst (Marked s 0) (sym c.new.ensures) (marked_start s) in
+    record {
+      short = c.requires.short;
+      within = omega arith;
+      clear = λ j l. absurd (omega arith);
+      clauses = search rules;
+      literals = search rules;
+      greatest = omega arith;
+      low = omega arith;
+      size = m.size;
+      held = m.held;
+      only = m.only;
+    }
 
 pub returns-in_err-step : goal.returns-in_err-step
 returns-in_err-step c =

@@ -12,12 +12,7 @@ returns-then-self-place-eq41-clause-steps c =
     let e = literals_close c.args.self.now.rest.now c.in_ok-place.place (sym c.in_ok-place.ensures) c.if-self-place-eq41.true in
     (e, e)
 
-pub returns-clause-steps : goal.returns-clause-steps
-returns-clause-steps c =
+pub returns : goal.returns
+returns c =
     let e = one_literal c.args.self.now.rest.now c.in_ok-place.place (sym c.in_ok-place.ensures) c.if-self-place-eq41.false c.split_at.result.0.now c.split_at.result.1.now c.split_at.ensures.front c.split_at.ensures.back c.condition.result c.condition.ensures c.ends_negated.result c.ends_negated.ensures in
-    cc
-
-pub returns-clause-goes : goal.returns-clause-goes
-returns-clause-goes c =
-    let e = one_literal c.args.self.now.rest.now c.in_ok-place.place (sym c.in_ok-place.ensures) c.if-self-place-eq41.false c.split_at.result.0.now c.split_at.result.1.now c.split_at.ensures.front c.split_at.ensures.back c.condition.result c.condition.ensures c.ends_negated.result c.ends_negated.ensures in
-    record { on = λ _. (tt, tt, omega (arith, ap length e)); keeps = tt; rests = λ _. tt }
+    record { steps = cc; goes = record { on = λ _. (tt, tt, omega (arith, ap length e)); keeps = tt; rests = λ _. tt } }
