@@ -6,14 +6,7 @@ use Rattle.text.specs.declared.in_place.literals.Literal.{Literal}
 use Rattle.text.specs.Limits.{lead_value}
 use Rattle.text.specs.Literals.{literal, literals_in, body_condition, outcome_condition, clause_of, Listed}
 use Rattle.text.specs.Reading.{body_in, outcome_in, clause_in, Small, OpensAt}
-use Rattle.text.proofs.Numbers.{names_at, lead_low}
-
--- small numbers stay so further on
-small_drop : (s : List ℕ) (k : ℕ) → Small s → Small (drop k s)
-small_drop s k small i n c = small (k + i) n (names_at s k i n c)
-
-small_tail : (b : ℕ) (bs : List ℕ) → Small (b ∷ bs) → Small bs
-small_tail b bs small = small_drop (b ∷ bs) 1 small
+use Rattle.text.proofs.Numbers.{small_drop, small_tail, lead_low}
 
 -- the number after a P, which is small
 read_whole : (b : ℕ) (bs : List ℕ) → eqb b 80 ≡ true → Small (b ∷ bs) → min 1001 (lead_value bs) ≡ lead_value bs

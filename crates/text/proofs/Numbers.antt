@@ -63,7 +63,7 @@ lead_absent s i p no_one = ⊎_elim
     (cases_Bool (first_digit (get_or s (i + 1) 0)))
 
 -- a condition that stands in the bytes from a place on
-pub names_at : (s : List ℕ) (k i n : ℕ) → Names (drop k s) i n → Names s (k + i) n
+names_at : (s : List ℕ) (k i n : ℕ) → Names (drop k s) i n → Names s (k + i) n
 names_at s k i n c =
     let e : k + (i + 1) ≡ k + i + 1 = omega arith in
     record {
@@ -82,6 +82,13 @@ names_first s k n c = record {
 pub read_at : (s : List ℕ) (k : ℕ) (r : Option ℕ) → Read (drop k s) 0 r → Read s k r
 read_at s k None none = λ n c. none n (names_first s k n c)
 read_at s k (Some r) x = let e : k + 0 ≡ k = add-zero k in record { value = x.value; condition = subst (λ i. Names s i x.value) e (names_at s k 0 x.value x.condition); capped = x.capped }
+
+-- small numbers stay so further on
+pub small_drop : (s : List ℕ) (k : ℕ) → Small s → Small (drop k s)
+small_drop s k small i n c = small (k + i) n (names_at s k i n c)
+
+pub small_tail : (b : ℕ) (bs : List ℕ) → Small (b ∷ bs) → Small bs
+small_tail b bs small = small_drop (b ∷ bs) 1 small
 
 -- the number after a P is small where all are
 pub lead_low : (s : List ℕ) → get_or s 0 0 ≡ 80 → Small s → lead_value (drop 1 s) ≤ 1000
