@@ -12,6 +12,7 @@ use horn::limits::{MAX_CLAUSES, MAX_CONDITION, MAX_LITERALS};
 #[derive(Drop)]
 struct Pass<'a> {
     text: &'a [u8],
+    // a field and no loop's index, since the facts below speak of it: handing it to each method is no plainer
     place: usize,
     counts: Counts,
     // the conditions that the body around the place holds before it
