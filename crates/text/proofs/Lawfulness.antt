@@ -2,14 +2,14 @@
 use Rattle.std.proofs.Common.{◌≡◌, ℕ, zero, suc, ◌+◌, ◌-◌, ◌*◌, ◌<◌, ◌≤◌, max, true, false, eqb, List, [], ◌∷◌, ◌++◌, length, get_or, drop, Some, None, sym, refl, ap, ◌∙◌, subst, ⊎_elim, add-one, arith, ne_eqb, eqb-true}
 use mathlib.Core.Bool.{false≢true}
 use Rattle.std.specs.List.{AllByRecursion}
-use Rattle.std.proofs.lemmas.List.{append_assoc, get_or-append-add, get_or_append_left, get_or-append_right, drop_at, drop-drop, length-append}
+use Rattle.std.proofs.lemmas.List.{append_assoc, get_or-append-add, get_or_append_left, get_or-append_right, drop_at, length-append}
 use Rattle.std.proofs.lemmas.Bool.{cases_lt, cases_eq, cases_Bool}
 use Rattle.horn.specs.Sheets.{Sheet, Condition, Distinct, Lawful, LawfulClause, any_of, greatest, top_of, outcome_number}
 use Rattle.text.specs.Grammar.{digit, first_digit, Digits, end, then, Number, number, NegLits, one, more, Basic, fact, rule, ban, Text, last, join, digits, numeral, neg_lits, basic, text, value, value_from, conditions, clause, clauses}
 use Rattle.text.specs.Judging.{run_value, Names, Negated, Repeats, Good}
 use Rattle.text.specs.Limits.{lead_value, top_in}
 use Rattle.text.specs.Reading.{sheet_in, Small}
-use Rattle.text.proofs.Numbers.{at_drop, lead_is, lead_absent}
+use Rattle.text.proofs.Numbers.{small_tail, lead_low}
 use Rattle.text.proofs.Trees.{run_number, first_is_digit, first_low, tops}
 use Rattle.text.proofs.InPlace.{front_inside, small, meaning, repeats_none}
 
@@ -188,21 +188,13 @@ module _ (s : List ℕ) where
         e ∙ (ap (λ u. pre ++ (40 ∷ u)) (a.1 ∙ sym (append_assoc a.0 (41 ∷ 38 ∷ []) (text t []))) ∙ sym (append_assoc pre head (text t []))) in
         (lawful_basic x c (omega arith) (distinct_basic pre c (38 ∷ text t []) e), each x (pre ++ head) t f (omega arith))
 
-top_low : (s : List ℕ) → Small s → (u : List ℕ) (j : ℕ) → u ≡ drop j s → top_in u ≤ 1000
-top_low s sm [] j e = omega arith
-top_low s sm (b ∷ bs) j e =
-    let e' : bs ≡ drop (j + 1) s = ap (drop 1) e ∙ drop-drop 1 j s in
-    let h = top_low s sm bs (j + 1) e' in
-    let g : get_or s j 0 ≡ b = sym (at_drop s j) ∙ ap (λ x. get_or x 0 0) (sym e) in
+top_low : (s : List ℕ) → Small s → top_in s ≤ 1000
+top_low [] small = omega arith
+top_low (b ∷ bs) small =
+    let h = top_low bs (small_tail b bs small) in
     ⊎_elim
-    (λ t.
-    let p : get_or s j 0 ≡ 80 = g ∙ eqb-true b 80 t in
-    let l : lead_value (drop (j + 1) s) ≤ 1000 = ⊎_elim
-    (λ d. let c : Names s j (run_value 0 (drop (j + 1) s)) = record { letter = p; leads = d; is = refl } in omega (arith, lead_is s j (run_value 0 (drop (j + 1) s)) c, sm j (run_value 0 (drop (j + 1) s)) c))
-    (λ d. omega (arith, lead_absent s j p (λ n c. false≢true (sym d ∙ c.leads))))
-    (cases_Bool (first_digit (get_or s (j + 1) 0))) in
-    rw t (omega (arith, h, l, ap lead_value e')))
-    (λ t. rw t h)
+    (λ (t : eqb b 80 ≡ true). let l : lead_value bs ≤ 1000 = lead_low (b ∷ bs) (eqb-true b 80 t) small in rw t (omega arith))
+    (λ (t : eqb b 80 ≡ false). rw t h)
     (cases_Bool (eqb b 80))
 
 -- a good text
@@ -210,7 +202,7 @@ module _ (s : List ℕ) (m k n : ℕ) (g : Good s m k n) where
   pub low : k ≤ 1000
   low =
       let e : top_in s ≡ max (top_of (clauses g.tree)) 0 = ap top_in (sym g.spells) ∙ tops g.tree [] in
-      omega (arith, e, top_low s (small s m k n g) s 0 refl, g.k_is)
+      omega (arith, e, top_low s (small s m k n g), g.k_is)
 
   pub lawful : Lawful (sheet_in k s)
   lawful = subst (AllByRecursion (LawfulClause (sheet_in k s))) (sym (meaning s m k n g)) (each s (repeats_none s m k n g) (sheet_in k s) [] g.tree (sym g.spells) (omega (arith, g.k_is)))

@@ -6,6 +6,7 @@ pub mod Trees
 pub mod Passes
 pub mod Meaning
 pub mod Scan
+pub mod Listing
 pub mod Starts
 pub mod InPlace
 pub mod Pinned
@@ -13,5 +14,5 @@ pub mod Lawfulness
 pub mod Fresh
 pub mod Accepted
 pub mod Bodies
-pub mod Stamps
+pub mod Marks
 pub mod Worked

@@ -1,10 +1,9 @@
 -- The reader's states and the grammar are one.
-use Rattle.std.proofs.Common.{◌≡◌, ℕ, suc, ◌+◌, ◌<◌, ◌≤◌, false, List, ◌∷◌, length, get_or, drop, Some, None, refl, ◌∙◌}
-use Rattle.std.proofs.lemmas.List.{drop_more, drop_all}
+use Rattle.std.proofs.Common.{◌≡◌, ℕ, List, ◌∷◌, refl, ◌∙◌}
 use Rattle.text.specs.declared.states.State.{State}
 use Rattle.text.specs.declared.states.State.TheVariants.{Start, Literal, Negated, NegFirst, NegMore, PosFirst, PosMore, Done}
 use Rattle.text.specs.Grammar.{Digits, end, then, Number, number, NegLits, one, more, Basic, fact, rule, ban, Text, last, join, digits, numeral, neg_lits, inside, text}
-use Rattle.text.specs.States.{next, on, reach, final, accepts}
+use Rattle.text.specs.States.{next, on}
 
 -- Complete: every text of the grammar is read. F is anything that goes on from state to state as the reader does.
 module _ {Y : Type 0} (F : State → List ℕ → Y) (stop : Y) (goes : (q : State) (b : ℕ) (s : List ℕ) → F q (b ∷ s) ≡ on (next q b) stop (λ r. F r s)) where
@@ -34,13 +33,3 @@ module _ {Y : Type 0} (F : State → List ℕ → Y) (stop : Y) (goes : (q : Sta
   pub texts : (t : Text) (s : List ℕ) → F Start (text t s) ≡ F Done s
   texts (last c) s = goes Start 40 _ ∙ insides c s
   texts (join c t) s = goes Start 40 _ ∙ (insides c _ ∙ (goes Done 38 _ ∙ texts t s))
-
--- The loop's steps.
-pub stuck : (q : State) (s : List ℕ) (i : ℕ) → i < length s → None ≡ next q (get_or s i 0) → (reach q (drop i s) ≡ 0) × (accepts q (drop i s) ≡ false)
-stuck q s i h e = rw (drop_more s i 0 h, ← e) (refl, refl)
-
-pub moved : (q r : State) (s : List ℕ) (i : ℕ) → i < length s → Some r ≡ next q (get_or s i 0) → (reach q (drop i s) ≡ suc (reach r (drop (i + 1) s))) × (accepts q (drop i s) ≡ accepts r (drop (i + 1) s))
-moved q r s i h e = rw (drop_more s i 0 h, ← e) (refl, refl)
-
-pub ends : (q : State) (s : List ℕ) (i : ℕ) → length s ≤ i → (reach q (drop i s) ≡ 0) × (accepts q (drop i s) ≡ final q)
-ends q s i h = rw (drop_all i s h) (refl, refl)

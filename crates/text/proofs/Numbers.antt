@@ -1,12 +1,15 @@
 -- The value of a run of digits.
-use Rattle.std.proofs.Common.{◌≡◌, ℕ, ◌+◌, ◌-◌, ◌*◌, ◌<◌, ◌≤◌, min, max, true, false, cond, eqb, List, [], ◌∷◌, length, get_or, drop, sym, refl, ap, ◌∙◌, ⊎_elim, add-zero, arith}
+use Rattle.std.proofs.Common.{◌≡◌, ℕ, suc, ◌+◌, ◌-◌, ◌*◌, ◌^◌, ◌<◌, ◌≤◌, min, max, true, false, cond, ◌&&◌, eqb, leb, List, [], ◌∷◌, Some, None, Option, length, get_or, take, drop, sym, refl, ap, ◌∙◌, subst, ⊎_elim, add-zero, arith}
+use Rattle.std.specs.List.{fold, take_while, prefix_len}
+use Rattle.std.specs.Char.{is_ascii_digit}
 use mathlib.Core.Bool.{false≢true}
-use Rattle.std.proofs.lemmas.List.Sums.{sum_by_more}
-use Rattle.std.proofs.lemmas.List.{drop_more, drop_all, get_or-drop}
+use Rattle.std.proofs.lemmas.List.Sums.{sum_by_more, count_by-le-length}
+use Rattle.std.proofs.lemmas.List.{drop_more, get_or-drop, drop-drop, length-take}
 use Rattle.std.proofs.lemmas.Bool.{cond_both, cases_lt, cases_Bool}
 use Rattle.text.specs.Grammar.{digit, first_digit}
 use Rattle.text.specs.Judging.{run_value, many, Names}
-use Rattle.text.specs.Limits.{lead_value, top_in}
+use Rattle.text.specs.Limits.{lead_value, top_in, Read}
+use Rattle.text.specs.Reading.{Small}
 
 pub grows : (s : List ℕ) (v : ℕ) → v ≤ run_value v s
 grows [] v = omega arith
@@ -21,14 +24,23 @@ capped s v = ⊎_elim
     (λ h. omega (arith, grows s v, grows s (min 1001 v)))
     (cases_lt v 1001)
 
-pub digit_more : (v : ℕ) (s : List ℕ) (i : ℕ) → i < length s → digit (get_or s i 0) ≡ true → run_value v (drop i s) ≡ run_value (10 * v + (get_or s i 0 - 48)) (drop (i + 1) s)
-digit_more v s i h e = rw (drop_more s i 0 h, e)
+-- two beginnings that are the same up to 1001 end so too
+same_capped : (s : List ℕ) (a b : ℕ) → min 1001 a ≡ min 1001 b → min 1001 (run_value a s) ≡ min 1001 (run_value b s)
+same_capped s a b e = sym (capped s a) ∙ (ap (λ x. min 1001 (run_value x s)) e ∙ capped s b)
 
-pub digit_stop : (v : ℕ) (s : List ℕ) (i : ℕ) → i < length s → digit (get_or s i 0) ≡ false → run_value v (drop i s) ≡ v
-digit_stop v s i h e = rw (drop_more s i 0 h, e)
+-- a digit more, in 16 bits
+abbrev pub saturated : ℕ → ℕ → ℕ
+saturated v b = min (min (v * 10) (2 ^ 16 - 1) + (b - 48)) (2 ^ 16 - 1)
 
-pub digit_end : (v : ℕ) (s : List ℕ) (i : ℕ) → length s ≤ i → run_value v (drop i s) ≡ v
-digit_end v s i h = rw (drop_all i s h)
+ascii_digit : (b : ℕ) → is_ascii_digit b ≡ digit b
+ascii_digit b = elim (leb 48 b) as (λ x. (x && leb b 57) ≡ cond x (leb b 57) false) [ true ↦ refl | false ↦ refl ]
+
+pub read_digits : (s : List ℕ) (v : ℕ) → min (fold saturated v (take_while is_ascii_digit s)) 1001 ≡ min 1001 (run_value v s)
+read_digits [] v = omega arith
+read_digits (b ∷ bs) v = ⊎_elim
+    (λ (t : digit b ≡ true). let z : 1 + prefix_len is_ascii_digit bs ≡ suc (prefix_len is_ascii_digit bs) = omega arith in rw (ascii_digit b, t, z) (read_digits bs (saturated v b) ∙ same_capped bs (saturated v b) (10 * v + (b - 48)) (omega arith)))
+    (λ (t : digit b ≡ false). rw (ascii_digit b, t) (omega arith))
+    (cases_Bool (digit b))
 
 lead_some : (u : List ℕ) → first_digit (get_or u 0 0) ≡ true → lead_value u ≡ run_value 0 u
 lead_some [] e = absurd (false≢true e)
@@ -49,6 +61,46 @@ lead_absent s i p no_one = ⊎_elim
     (λ e. absurd (no_one (run_value 0 (drop (i + 1) s)) (record { letter = p; leads = e; is = refl })))
     (λ e. lead_none (drop (i + 1) s) (ap first_digit (at_drop s (i + 1)) ∙ e))
     (cases_Bool (first_digit (get_or s (i + 1) 0)))
+
+-- a condition that stands in the bytes from a place on
+names_at : (s : List ℕ) (k i n : ℕ) → Names (drop k s) i n → Names s (k + i) n
+names_at s k i n c =
+    let e : k + (i + 1) ≡ k + i + 1 = omega arith in
+    record {
+      letter = sym (get_or-drop k s i 0) ∙ c.letter;
+      leads = ap (λ x. first_digit (get_or s x 0)) (sym e) ∙ (sym (ap first_digit (get_or-drop k s (i + 1) 0)) ∙ c.leads);
+      is = c.is ∙ (ap (run_value 0) (drop-drop (i + 1) k s) ∙ ap (λ x. run_value 0 (drop x s)) e);
+    }
+
+names_first : (s : List ℕ) (k n : ℕ) → Names s k n → Names (drop k s) 0 n
+names_first s k n c = record {
+  letter = at_drop s k ∙ c.letter;
+  leads = ap first_digit (get_or-drop k s 1 0) ∙ c.leads;
+  is = c.is ∙ sym (ap (run_value 0) (drop-drop 1 k s));
+}
+
+pub read_at : (s : List ℕ) (k : ℕ) (r : Option ℕ) → Read (drop k s) 0 r → Read s k r
+read_at s k None none = λ n c. none n (names_first s k n c)
+read_at s k (Some r) x = let e : k + 0 ≡ k = add-zero k in record { value = x.value; condition = subst (λ i. Names s i x.value) e (names_at s k 0 x.value x.condition); capped = x.capped }
+
+-- small numbers stay so further on
+pub small_drop : (s : List ℕ) (k : ℕ) → Small s → Small (drop k s)
+small_drop s k small i n c = small (k + i) n (names_at s k i n c)
+
+pub small_tail : (b : ℕ) (bs : List ℕ) → Small (b ∷ bs) → Small bs
+small_tail b bs small = small_drop (b ∷ bs) 1 small
+
+-- the number after a P is small where all are
+pub lead_low : (s : List ℕ) → get_or s 0 0 ≡ 80 → Small s → lead_value (drop 1 s) ≤ 1000
+lead_low s e small = ⊎_elim
+    (λ (t : first_digit (get_or s 1 0) ≡ true).
+    let c : Names s 0 (run_value 0 (drop 1 s)) = record { letter = e; leads = t; is = refl } in
+    omega (arith, lead_is s 0 (run_value 0 (drop 1 s)) c, small 0 (run_value 0 (drop 1 s)) c))
+    (λ (t : first_digit (get_or s 1 0) ≡ false). omega (arith, lead_none (drop 1 s) (ap first_digit (at_drop s 1) ∙ t)))
+    (cases_Bool (first_digit (get_or s 1 0)))
+
+pub many_low : (b : ℕ) (s : List ℕ) (i : ℕ) → many b s i ≤ i
+many_low b s i = omega (arith, count_by-le-length (λ x. eqb x b) (take i s), length-take i s)
 
 pub many_more : (b : ℕ) (s : List ℕ) (i : ℕ) → i < length s → many b s (i + 1) ≡ many b s i + cond (eqb (get_or s i 0) b) 1 0
 many_more b s i h = sum_by_more (λ x. cond (eqb x b) 1 0) s i 0 h

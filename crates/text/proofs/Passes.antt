@@ -1,5 +1,5 @@
 -- What judging answers, from the reader's two passes.
-use Rattle.std.proofs.Common.{◌≡◌, ℕ, ◌<◌, ◌≤◌, true, false, eqb, List, [], ◌++◌, length, take, drop, count_by, sym, refl, ap, ◌∙◌, subst, inl, inr, ⊎_elim, arith}
+use Rattle.std.proofs.Common.{◌≡◌, ℕ, ◌<◌, ◌≤◌, true, false, eqb, List, [], ◌++◌, Some, None, Option, MatchOption, unwrap_or, length, take, drop, count_by, sym, refl, ap, ◌∙◌, subst, inl, inr, ⊎_elim, arith}
 use Rattle.std.proofs.lemmas.List.{take_all, drop_all, append-nil}
 use Rattle.std.proofs.lemmas.Bool.{cases_order}
 use Rattle.text.specs.declared.verdict.Counts.{Counts}
@@ -68,3 +68,8 @@ module _ (s : List ℕ) where
   refused_at w e short f h =
       subst (Refused s (fault_number f)) (sym h.is.place)
       (short, reported_limit (fault_number f) h.at (omega (arith, h.within)) h.is.limit h.is.least h.clear)
+
+  -- where the reader gets to, from what it finds outside
+  pub end_is : (o : Option ℕ) → MatchOption o (accepts Start s ≡ true) (λ p. (p ≡ v) × (accepts Start s ≡ false)) → unwrap_or o (length s) ≡ v
+  end_is None inside = sym (all_read inside)
+  end_is (Some p) h = h.0

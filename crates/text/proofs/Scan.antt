@@ -1,60 +1,78 @@
--- One byte more of a text that is read in place.
-use Rattle.std.proofs.Common.{◌≡◌, ℕ, zero, suc, ◌+◌, ◌-◌, ◌<◌, ◌≤◌, Bool, true, false, eqb, List, [], ◌∷◌, length, get_or, drop, Some, None, refl, ap, arith, ne_eqb}
-use Rattle.std.proofs.lemmas.List.{drop_more, drop_all}
-use Rattle.horn.specs.Sources.{at_place}
-use Rattle.text.specs.Limits.{lead_value}
-use Rattle.text.specs.Reading.{body_in, outcome_in, starts_in}
+-- The next literal of a clause that is read in place.
+use Rattle.std.proofs.Common.{◌≡◌, ℕ, zero, suc, ◌+◌, ◌-◌, ◌<◌, ◌≤◌, Bool, true, false, eqb, List, [], ◌∷◌, length, get_or, take, drop, not, Some, None, Option, unwrap_or, min, refl, ap, ◌∙◌, subst, ⊎_elim, arith, ltb, ltb-false, ne_eqb}
+use Rattle.std.specs.List.{position, prefix_len}
+use Rattle.std.proofs.lemmas.Bool.{or_parts, or_from, cases_eq, cases_Bool, not-true}
+use Rattle.std.proofs.lemmas.List.Sums.{prefix_len-le-length, prefix_len_passes}
+use Rattle.std.proofs.lemmas.List.Quantifiers.{position-Some}
+use Rattle.std.proofs.lemmas.List.{drop_more, drop_all, drop-drop, take_rest, get_or-take, length-take}
+use Rattle.text.proofs.Numbers.{lead_is, lead_absent, read_at}
+use Rattle.text.specs.Limits.{lead_value, Read}
+use Rattle.text.specs.Literals.{is_sign, literal, literals_in}
 
-module _ (s : List ℕ) (p : ℕ) (within : p < length s) where
-  pub outcome_close : (neg : Bool) → get_or s p 0 ≡ 41 → outcome_in neg (drop p s) ≡ None
-  outcome_close neg e = rw (drop_more s p 0 within, e)
+-- no P and no ) stands before place k
+abbrev NoSigns : List ℕ → ℕ → Type 0
+NoSigns s k = (j : ℕ) → j < k → is_sign (get_or s j 0) ≡ false
 
-  pub outcome_letter : get_or s p 0 ≡ 80 → outcome_in false (drop p s) ≡ Some (lead_value (drop (p + 1) s))
-  outcome_letter e = rw (drop_more s p 0 within, e)
+-- whether a ~ stands just before place k
+abbrev pub tilde_at : Bool → List ℕ → ℕ → Bool
+tilde_at neg s zero = neg
+tilde_at neg s (suc k) = eqb (get_or s k 0) 126
 
-  pub outcome_negated : get_or s p 0 ≡ 80 → outcome_in true (drop p s) ≡ outcome_in false (drop (p + 1) s)
-  outcome_negated e = rw (drop_more s p 0 within, e)
+passed : (s : List ℕ) (neg : Bool) (k : ℕ) → k ≤ length s → NoSigns s k → literals_in neg s ≡ literals_in (tilde_at neg s k) (drop k s)
+passed s neg zero l none = refl
+passed [] neg (suc k) l none = absurd (omega arith)
+passed (b ∷ bs) neg (suc zero) l none = let h = or_parts (eqb b 80) (eqb b 41) (none 0 (omega arith)) in rw (h.0, h.1) refl
+passed (b ∷ bs) neg (suc (suc k)) l none =
+    let h = or_parts (eqb b 80) (eqb b 41) (none 0 (omega arith)) in
+    rw (h.0, h.1) (passed bs (eqb b 126) (suc k) (omega arith) (λ j below. none (suc j) (omega arith)))
 
-  pub outcome_other : (neg : Bool) → (get_or s p 0 ≡ 41 → ⊥) → (get_or s p 0 ≡ 80 → ⊥) → outcome_in neg (drop p s) ≡ outcome_in (eqb (get_or s p 0) 126) (drop (p + 1) s)
-  outcome_other neg n m = rw (drop_more s p 0 within, ne_eqb (get_or s p 0) 41 n, ne_eqb (get_or s p 0) 80 m)
+pub tilde_before : (s : List ℕ) (k : ℕ) → k ≤ length s → eqb (get_or (take k s) (length (take k s) - 1) 0) 126 ≡ tilde_at false s k
+tilde_before s zero l = refl
+tilde_before s (suc k) l =
+    let n : length (take (suc k) s) - 1 ≡ k = omega (arith, length-take (suc k) s) in
+    let below : k < suc k = omega arith in
+    rw (n, get_or-take) refl
 
-pub outcome_end : (s : List ℕ) (p : ℕ) (neg : Bool) → length s ≤ p → outcome_in neg (drop p s) ≡ None
-outcome_end s p neg h = rw (drop_all p s h)
+pub literals_none : (s : List ℕ) → position is_sign s ≡ None → literals_in false s ≡ []
+literals_none s e =
+    let k = prefix_len (λ b. not (is_sign b)) s in
+    ⊎_elim
+    (λ (t : ltb k (length s) ≡ true). absurd (let z : ◌≡◌ {A = Option ℕ} (Some k) None = rw t at e in cc))
+    (λ (t : ltb k (length s) ≡ false).
+    let far = ltb-false k (length s) t in
+    passed s false k (prefix_len-le-length (λ b. not (is_sign b)) s) (λ j below. not-true (is_sign (get_or s j 0)) (prefix_len_passes (λ b. not (is_sign b)) s j 0 below)) ∙ rw (drop_all k s far) refl)
+    (cases_Bool (ltb k (length s)))
 
-pub place_none : (j : ℕ) → at_place [] j ≡ None
-place_none zero = refl
-place_none (suc j) = refl
+module _ (s : List ℕ) (k : ℕ) (at : position is_sign s ≡ Some k) where
+  pub sign_within : k < length s
+  sign_within = (position-Some is_sign s k 0 at).0
 
-pub place_one : (x : ℕ) (xs : List ℕ) (j : ℕ) → j ≡ 1 → at_place (x ∷ xs) j ≡ Some x
-place_one x xs j e = ap (at_place (x ∷ xs)) e
+  up_to_sign : literals_in false s ≡ literals_in (tilde_at false s k) (drop k s)
+  up_to_sign = let h = position-Some is_sign s k 0 at in passed s false k (omega arith) h.2
 
-pub place_past : (x : ℕ) (xs : List ℕ) (j : ℕ) → 0 < j → (j ≡ 1 → ⊥) → at_place (x ∷ xs) j ≡ at_place xs (j - 1)
-place_past x xs zero l n = absurd (omega arith)
-place_past x xs (suc zero) l n = absurd (n refl)
-place_past x xs (suc (suc j)) l n = let e : suc j ≡ suc (suc j) - 1 = omega arith in ap (at_place xs) e
+  pub literals_close : get_or s k 0 ≡ 41 → literals_in false s ≡ []
+  literals_close e = let l = sign_within in up_to_sign ∙ rw (drop_more s k 0 l, e) refl
 
-module _ (s : List ℕ) (p : ℕ) (within : p < length s) where
-  pub body_close : (neg : Bool) → get_or s p 0 ≡ 41 → body_in neg (drop p s) ≡ []
-  body_close neg e = rw (drop_more s p 0 within, e)
+  pub letter_found : (get_or s k 0 ≡ 41 → ⊥) → get_or s k 0 ≡ 80
+  letter_found other = ⊎_elim
+      (λ e. e)
+      (λ not_letter. absurd (let n = or_from (eqb (get_or s k 0) 80) (eqb (get_or s k 0) 41) (ne_eqb (get_or s k 0) 80 not_letter) (ne_eqb (get_or s k 0) 41 other) in let t = (position-Some is_sign s k 0 at).1 in cc))
+      (cases_eq (get_or s k 0) 80)
 
-  pub body_letter : get_or s p 0 ≡ 80 → body_in false (drop p s) ≡ body_in false (drop (p + 1) s)
-  body_letter e = rw (drop_more s p 0 within, e)
+  pub literals_found : get_or s k 0 ≡ 80 → literals_in false s ≡ literal (tilde_at false s k) (min 1001 (lead_value (drop (k + 1) s))) ∷ literals_in false (drop (k + 1) s)
+  literals_found e = let l = sign_within in up_to_sign ∙ rw (drop_more s k 0 l, e) refl
 
-  pub body_negated : get_or s p 0 ≡ 80 → body_in true (drop p s) ≡ lead_value (drop (p + 1) s) ∷ body_in false (drop (p + 1) s)
-  body_negated e = rw (drop_more s p 0 within, e)
+-- the number that is read there
+number_is : (s : List ℕ) (k : ℕ) → get_or s k 0 ≡ 80 → (r : Option ℕ) → Read s k r → unwrap_or r 0 ≡ min 1001 (lead_value (drop (k + 1) s))
+number_is s k e None none = omega (arith, lead_absent s k e none)
+number_is s k e (Some r) x = omega (arith, x.capped, lead_is s k x.value x.condition)
 
-  pub body_other : (neg : Bool) → (get_or s p 0 ≡ 41 → ⊥) → (get_or s p 0 ≡ 80 → ⊥) → body_in neg (drop p s) ≡ body_in (eqb (get_or s p 0) 126) (drop (p + 1) s)
-  body_other neg n m = rw (drop_more s p 0 within, ne_eqb (get_or s p 0) 41 n, ne_eqb (get_or s p 0) 80 m)
-
-pub body_end : (s : List ℕ) (p : ℕ) (neg : Bool) → length s ≤ p → body_in neg (drop p s) ≡ []
-body_end s p neg h = rw (drop_all p s h)
-
-module _ (s : List ℕ) (p : ℕ) (within : p < length s) where
-  pub starts_open : get_or s p 0 ≡ 40 → starts_in p (drop p s) ≡ p ∷ starts_in (p + 1) (drop (p + 1) s)
-  starts_open e = rw (drop_more s p 0 within, e)
-
-  pub starts_other : (get_or s p 0 ≡ 40 → ⊥) → starts_in p (drop p s) ≡ starts_in (p + 1) (drop (p + 1) s)
-  starts_other n = rw (drop_more s p 0 within, ne_eqb (get_or s p 0) 40 n)
-
-pub starts_end : (s : List ℕ) (p : ℕ) → length s ≤ p → starts_in p (drop p s) ≡ []
-starts_end s p h = rw (drop_all p s h)
+-- one literal, from the parts that are read
+pub one_literal : (s : List ℕ) (k : ℕ) → position is_sign s ≡ Some k → (get_or s k 0 ≡ 41 → ⊥) → (before from : List ℕ) → before ≡ take k s → from ≡ drop k s → (r : Option ℕ) → Read from 0 r → (neg : Bool) → neg ≡ eqb (get_or before (length before - 1) 0) 126 → literals_in false s ≡ literal neg (unwrap_or r 0) ∷ literals_in false (take (length from - 1) (drop 1 from))
+one_literal s k at other before from b f r x neg t =
+    let e = letter_found s k at other in
+    let l = sign_within s k at in
+    let n : unwrap_or r 0 ≡ min 1001 (lead_value (drop (k + 1) s)) = number_is s k e r (read_at s k r (subst (λ y. Read y 0 r) f x)) in
+    let rest : take (length from - 1) (drop 1 from) ≡ drop (k + 1) s = take_rest from 1 ∙ (ap (drop 1) f ∙ drop-drop 1 k s) in
+    let tilde : neg ≡ tilde_at false s k = t ∙ (ap (λ y. eqb (get_or y (length y - 1) 0) 126) b ∙ tilde_before s k (omega arith)) in
+    rw (rest, n, tilde) (literals_found s k at e)

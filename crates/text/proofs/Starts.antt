@@ -1,11 +1,10 @@
 -- The places where the clauses of a text start.
-use Rattle.std.proofs.Common.{◌≡◌, ℕ, zero, suc, ◌+◌, ◌-◌, ◌<◌, ◌≤◌, true, false, eqb, ltb, List, [], ◌∷◌, ◌++◌, length, get_or, drop, Some, None, Option, sym, refl, ap, ◌∙◌, subst, ⊎_elim, arith, length-drop, ltb-false, ltb-true}
+use Rattle.std.proofs.Common.{◌≡◌, ℕ, zero, suc, ◌+◌, ◌<◌, ◌≤◌, true, false, eqb, ltb, List, [], ◌∷◌, length, get_or, drop, Some, None, Option, sym, refl, ap, ◌∙◌, subst, ⊎_elim, arith, length-drop, ltb-false, ltb-true}
 use Rattle.std.specs.List.{slice_get}
-use Rattle.std.proofs.lemmas.List.{drop-drop, append_assoc, length-append}
+use Rattle.std.proofs.lemmas.List.{drop-drop}
 use Rattle.std.proofs.lemmas.Option.{slice_get-get_or, slice_get_past}
 use Rattle.std.proofs.lemmas.Bool.{cases_Bool}
 use Rattle.horn.specs.Sheets.{Clause, clause_at}
-use Rattle.text.proofs.Scan.{starts_open}
 use Rattle.text.specs.Reading.{clause_in, clauses_in, starts_in, sheet_in, Opened}
 
 pub same_length : (i : ℕ) (s : List ℕ) → length (starts_in i s) ≡ length (clauses_in s)
@@ -36,26 +35,13 @@ opened_at : (s : List ℕ) (i : ℕ) (o : Option ℕ) (c : Option Clause) → St
 opened_at s i None c h e = λ k. e k ∙ h
 opened_at s i (Some p) c h e = record { within = h.0; clause = λ k. e k ∙ h.1 }
 
--- the place that is kept for clause i
-opened : (s : List ℕ) (i : ℕ) (o : Option ℕ) → 0 < i → slice_get (starts_in 0 s) (i - 1) ≡ o → Opened s i o
-opened s zero o l e = absurd (omega arith)
-opened s (suc i) o l e =
-    let f : suc i - 1 ≡ i = omega arith in
-    let h : Starts s o (slice_get (clauses_in s) i) = subst (λ x. Starts s x (slice_get (clauses_in s) i)) (sym (ap (slice_get (starts_in 0 s)) f) ∙ e) (starts s s 0 refl i) in
-    opened_at s (suc i) o (slice_get (clauses_in s) i) h (λ k. refl)
+-- the place that is kept for clause i, in a list that counts from 0
+opened : (s : List ℕ) (n : ℕ) (o : Option ℕ) → slice_get (starts_in 0 s) n ≡ o → Opened s (suc n) o
+opened s n o e = opened_at s (suc n) o (slice_get (clauses_in s) n) (subst (λ x. Starts s x (slice_get (clauses_in s) n)) e (starts s s 0 refl n)) (λ k. refl)
 
--- the same for places that are kept in a list
-module _ (s xs : List ℕ) (kept : xs ≡ starts_in 0 s) (i : ℕ) (l : 0 < i) where
-  pub kept_none : false ≡ ltb (i - 1) (length xs) → Opened s i None
-  kept_none e = opened s i None l (sym (ap (λ ys. slice_get ys (i - 1)) kept) ∙ slice_get_past xs (i - 1) (ltb-false (i - 1) (length xs) (sym e)))
+module _ (s xs : List ℕ) (kept : xs ≡ starts_in 0 s) (i n : ℕ) (e : i ≡ suc n) where
+  pub kept_none : false ≡ ltb n (length xs) → Opened s i None
+  kept_none past = rw e (opened s n None (sym (ap (λ ys. slice_get ys n) kept) ∙ slice_get_past xs n (ltb-false n (length xs) (sym past))))
 
-  pub kept_some : (p : ℕ) → true ≡ ltb (i - 1) (length xs) → p ≡ get_or xs (i - 1) p → Opened s i (Some p)
-  kept_some p e f = opened s i (Some p) l (sym (ap (λ ys. slice_get ys (i - 1)) kept) ∙ (slice_get-get_or xs (i - 1) p (ltb-true (i - 1) (length xs) (sym e)) ∙ ap Some (sym f)))
-
--- one sign ( more is kept
-pub kept_more : (s : List ℕ) (p : ℕ) (xs ys : List ℕ) → p < length s → get_or s p 0 ≡ 40 → xs ++ starts_in p (drop p s) ≡ starts_in 0 s → ys ≡ xs ++ p ∷ [] → ys ++ starts_in (p + 1) (drop (p + 1) s) ≡ starts_in 0 s
-kept_more s p xs ys l e h f = ap (λ zs. zs ++ starts_in (p + 1) (drop (p + 1) s)) f ∙ (append_assoc xs (p ∷ []) (starts_in (p + 1) (drop (p + 1) s)) ∙ (sym (ap (λ zs. xs ++ zs) (starts_open s p l e)) ∙ h))
-
--- there is room for it
-pub kept_room : (s : List ℕ) (p : ℕ) (xs : List ℕ) → p < length s → get_or s p 0 ≡ 40 → xs ++ starts_in p (drop p s) ≡ starts_in 0 s → length xs < length (starts_in 0 s)
-kept_room s p xs l e h = omega (arith, sym (length-append xs (starts_in p (drop p s))) ∙ ap length h, ap length (starts_open s p l e))
+  pub kept_some : (p : ℕ) → true ≡ ltb n (length xs) → p ≡ get_or xs n p → Opened s i (Some p)
+  kept_some p within f = rw e (opened s n (Some p) (sym (ap (λ ys. slice_get ys n) kept) ∙ (slice_get-get_or xs n p (ltb-true n (length xs) (sym within)) ∙ ap Some (sym f))))

@@ -1,9 +1,11 @@
 pub mod Grammar
 pub mod Judging
 pub mod Verdicts
+pub mod Words
 pub mod Accepted
 pub mod States
 pub mod Limits
 pub mod Reading
+pub mod Literals
 pub mod InPlace
 pub mod Examples

@@ -1,9 +1,9 @@
 -- What the functions of the reader answer, place by place.
-use Rattle.std.specs.Prelude.{◌≡◌, ℕ, ◌+◌, ◌<◌, ◌≤◌, min, max, cond, List, [], ◌∷◌, length, drop, Some, None, Ok, Err, Option, Result, ◌==◌, slice_index}
+use Rattle.std.specs.Prelude.{◌≡◌, ℕ, ◌<◌, ◌≤◌, min, max, cond, List, [], ◌∷◌, drop, Some, None, Ok, Err, Option, Result, ◌==◌}
 use Rattle.text.specs.declared.verdict.Counts.{Counts}
 use Rattle.text.specs.declared.verdict.Fault.{Fault}
 use Rattle.text.specs.Grammar.{first_digit}
-use Rattle.text.specs.Judging.{run_value, Names, Held, many, IsTooGreat, Repeats, Limit}
+use Rattle.text.specs.Judging.{run_value, Names, many, IsTooGreat, Repeats, Limit}
 use Rattle.text.specs.Verdicts.{fault_number, fault_place}
 
 -- the condition at place i, where 1,001 stands for every number above 1,000
@@ -23,14 +23,14 @@ pub record Least (s : List ℕ) (i : ℕ) (f : Fault) : Type 0 where
   pub least : (g : ℕ) → Limit s g i → fault_number f ≤ g
 
 -- faults 3 and 4 at place i
-abbrev pub Wrong : List ℕ → ℕ → Option Fault → Type 0
-Wrong s i None = (IsTooGreat s i → ⊥) × (Repeats s i → ⊥)
-Wrong s i (Some f) = Least s i f
+abbrev pub Wrong : List ℕ → ℕ → Result (Unit {0}) Fault → Type 0
+Wrong s i (Ok _) = (IsTooGreat s i → ⊥) × (Repeats s i → ⊥)
+Wrong s i (Err f) = Least s i f
 
 -- all faults of the limits at place i
-abbrev pub Lowest : List ℕ → ℕ → Option Fault → Type 0
-Lowest s i None = (g : ℕ) → Limit s g i → ⊥
-Lowest s i (Some f) = Least s i f
+abbrev pub Lowest : List ℕ → ℕ → Result (Unit {0}) Fault → Type 0
+Lowest s i (Ok _) = (g : ℕ) → Limit s g i → ⊥
+Lowest s i (Err f) = Least s i f
 
 -- the number that stands here, 0 where none does
 abbrev pub lead_value : List ℕ → ℕ
@@ -50,14 +50,6 @@ pub record Counted (s : List ℕ) (i : ℕ) (c : Counts) : Type 0 where
   pub few_clauses : c.clauses ≤ i
   pub few_literals : c.literals ≤ i
   pub low_top : c.conditions ≤ 1000
-
--- The stamp of a condition: one more than the number of clauses before place i, where the body around that place holds
--- the condition before it; else a lower number.
-pub record Stamped (s : List ℕ) (i : ℕ) (stamps : List ℕ) : Type 0 where
-  pub size : length stamps ≡ 1001
-  pub low : (n : ℕ) → slice_index stamps n ≤ many 40 s i + 1
-  pub holds : (n : ℕ) → slice_index stamps n ≡ many 40 s i + 1 → (j : ℕ) × Held s i n j
-  pub stamped : (n j : ℕ) → n ≤ 1000 → Held s i n j → slice_index stamps n ≡ many 40 s i + 1
 
 -- no fault of the limits stands before place i
 abbrev pub Clear : List ℕ → ℕ → Type 0

@@ -6,9 +6,9 @@ ghost use Rattle.text.specs.Reading.{sheet_in, clauses_in, starts_in, Small};
 
 use crate::verdict::{Counts, Fault};
 
+mod literals;
 mod making;
 pub mod questions;
-mod scan;
 
 // A good text with the place where each clause starts, or the empty text for a refused one.
 #[derive(Drop)]

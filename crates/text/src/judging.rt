@@ -1,8 +1,8 @@
 // Judging a text.
 ghost use Rattle.text.specs.Verdicts.{Judged};
 
-use crate::limits::Reader;
-use crate::states::form;
+use crate::limits::limits;
+use crate::states::outside_at;
 use crate::verdict::{Counts, Fault};
 use horn::limits::MAX_TEXT;
 
@@ -13,15 +13,11 @@ pub fn judge(text: &[u8]) -> Result<Counts, Fault>
     if text.len() > MAX_TEXT {
         return Err(Fault::TooLong);
     }
-    let (end, inside) = form(text);
-    let reader = Reader { bytes: text };
-    match reader.limits(end) {
-        Err(f) => Err(f),
-        Ok(counts) => {
-            if inside {
-                return Ok(counts);
-            }
-            Err(Fault::Outside(end))
-        }
+    let outside = outside_at(text);
+    let end = outside.unwrap_or(text.len());
+    let counts = limits(text, end)?;
+    match outside {
+        None => Ok(counts),
+        Some(place) => Err(Fault::Outside(place)),
     }
 }

@@ -1,6 +1,8 @@
 // Texts of Horn sheets: judging a text, and reading its clauses in place.
 #![tactic(auto)]
 
+mod condition_set;
+mod conditions;
 mod in_place;
 mod judging;
 mod limits;

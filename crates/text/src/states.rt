@@ -1,9 +1,9 @@
 // The reader's states: how far a text follows the grammar.
-ghost use Rattle.std.specs.Prelude.{◌≡◌};
-ghost use Rattle.text.specs.States.{next, reach, accepts, final};
+ghost use Rattle.std.specs.Prelude.{◌≡◌, true, false, MatchOption};
+ghost use Rattle.text.specs.States.{next, reach, accepts};
 
-#[derive(Clone, Copy)]
-pub enum State {
+#[derive(Clone, Copy, PartialEq, Eq, Debug)]
+pub(crate) enum State {
     Start,
     Literal,
     Negated,
@@ -15,49 +15,33 @@ pub enum State {
 }
 
 // The state after one byte more.
-fn step(state: State, b: u8) -> Option<State>
-    ensures { result ≡ next state b }
+fn step(state: State, byte: u8) -> Option<State>
+    ensures { result ≡ next state byte }
 {
-    match (state, b as char) {
-        (State::Start, '(') => Some(State::Literal),
-        (State::Literal, '~') => Some(State::Negated),
-        (State::Literal, 'P') => Some(State::PosFirst),
-        (State::Negated, 'P') => Some(State::NegFirst),
-        (State::NegFirst, '1'..='9') => Some(State::NegMore),
-        (State::NegMore, '0'..='9') => Some(State::NegMore),
-        (State::NegMore, '|') => Some(State::Literal),
-        (State::NegMore, ')') => Some(State::Done),
-        (State::PosFirst, '1'..='9') => Some(State::PosMore),
-        (State::PosMore, '0'..='9') => Some(State::PosMore),
-        (State::PosMore, ')') => Some(State::Done),
-        (State::Done, '&') => Some(State::Start),
+    match (state, byte) {
+        (State::Start, b'(') => Some(State::Literal),
+        (State::Literal, b'~') => Some(State::Negated),
+        (State::Literal, b'P') => Some(State::PosFirst),
+        (State::Negated, b'P') => Some(State::NegFirst),
+        (State::NegFirst, b'1'..=b'9') | (State::NegMore, b'0'..=b'9') => Some(State::NegMore),
+        (State::NegMore, b'|') => Some(State::Literal),
+        (State::NegMore | State::PosMore, b')') => Some(State::Done),
+        (State::PosFirst, b'1'..=b'9') | (State::PosMore, b'0'..=b'9') => Some(State::PosMore),
+        (State::Done, b'&') => Some(State::Start),
         _ => None,
     }
 }
 
-// Whether a text may end in this state.
-fn ended(state: State) -> bool
-    ensures { result ≡ final state }
-{
-    match state {
-        State::Done => true,
-        _ => false,
-    }
-}
-
-// How many bytes the longest viable beginning has, and whether the text is one of the grammar.
-pub(crate) fn form(text: &[u8]) -> (usize, bool)
-    ensures far { result.0 ≡ reach State.Start text.now }
-    ensures inside { result.1 ≡ accepts State.Start text.now }
+// The place at which a text leaves the grammar, its size if it ends too early; none for a text of the grammar.
+pub(crate) fn outside_at(text: &[u8]) -> Option<usize>
+    ensures { MatchOption result (accepts State.Start text.now ≡ true) (λ place. (place ≡ reach State.Start text.now) × (accepts State.Start text.now ≡ false)) }
 {
     let mut state = State::Start;
-    let mut i = 0;
-    while i < text.len() {
-        match step(state, text[i]) {
-            Some(q) => state = q,
-            None => return (i, false),
+    for (place, byte) in text.iter().enumerate() {
+        match step(state, *byte) {
+            Some(next) => state = next,
+            None => return Some(place),
         }
-        i += 1;
     }
-    (i, ended(state))
+    (!matches!(state, State::Done)).then_some(text.len())
 }

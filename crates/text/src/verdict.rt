@@ -1,9 +1,13 @@
 // What judging a text answers.
-ghost use Rattle.std.specs.Prelude.{◌≡◌};
+ghost use Rattle.std.specs.Prelude.{◌≡◌, Some};
 ghost use Rattle.text.specs.Verdicts.{fault_number, fault_place};
+ghost use Rattle.text.specs.Words.{fault_words};
+
+use std::error::Error;
+use std::fmt;
 
 // The numbers of a good text's clauses and literals, and its greatest condition.
-#[derive(Clone, Copy)]
+#[derive(Clone, Copy, PartialEq, Eq, Debug, Default)]
 pub struct Counts {
     pub clauses: u16,
     pub conditions: u16,
@@ -11,7 +15,7 @@ pub struct Counts {
 }
 
 // Why a text is refused, with the place in bytes from 0.
-#[derive(Clone, Copy)]
+#[derive(Clone, Copy, PartialEq, Eq, Debug)]
 pub enum Fault {
     TooLong,
     Outside(usize),
@@ -38,10 +42,26 @@ impl Fault {
     {
         match *self {
             Fault::TooLong => None,
-            Fault::Outside(i) => Some(i),
-            Fault::TooGreat(i) => Some(i),
-            Fault::Repeated(i) => Some(i),
-            Fault::TooMany(i) => Some(i),
+            Fault::Outside(place)
+            | Fault::TooGreat(place)
+            | Fault::Repeated(place)
+            | Fault::TooMany(place) => Some(place),
         }
     }
 }
+
+impl fmt::Display for Fault {
+    ghost output = { λ fault. Some (fault_words fault) };
+
+    fn fmt<W: fmt::Write>(&self, f: &mut fmt::Formatter<W>) -> fmt::Result {
+        f.write_str(match *self {
+            Fault::TooLong => "the text has more than 60,000 bytes",
+            Fault::Outside(_) => "no sheet goes on like this",
+            Fault::TooGreat(_) => "the condition is above 1,000",
+            Fault::Repeated(_) => "the condition stands twice in its body",
+            Fault::TooMany(_) => "the sheet has more than 2,000 clauses or 8,000 literals",
+        })
+    }
+}
+
+impl Error for Fault {}

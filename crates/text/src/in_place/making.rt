@@ -1,14 +1,28 @@
 // Making a text in place.
-ghost use Rattle.std.specs.Prelude.{◌≡◌, IfOk};
+ghost use Rattle.std.specs.Prelude.{◌≡◌, ◌≤◌, length, IfOk};
 ghost use Rattle.text.specs.Verdicts.{Judged};
-ghost use Rattle.text.specs.Reading.{Meant};
+ghost use Rattle.text.specs.Reading.{Meant, starts_in};
 ghost use Rattle.text.specs.InPlace.{text_sheet};
 
 use crate::in_place::TextSheet;
-use crate::in_place::scan::starts_of;
 use crate::judging::judge;
 use crate::verdict::{Counts, Fault};
 use std::alloc::{AllocError, Global};
+
+// The places of the signs (, of which there are `count`.
+fn starts_of(heap: Global, text: &[u8], count: u16) -> Result<Vec<u16>, AllocError>
+    requires short { length text.now ≤ 60000 }
+    requires counted { count ≡ length (starts_in 0 text.now) }
+    ensures { IfOk result (λ v. v.items ≡ starts_in 0 text.now) }
+{
+    let mut starts = Vec::with_capacity(heap, usize::from(count))?;
+    for (place, byte) in text.iter().enumerate() {
+        if *byte == b'(' {
+            starts.push_reserved(place as u16);
+        }
+    }
+    Ok(starts)
+}
 
 impl<'a> TextSheet<'a> {
     // Judges a text and keeps where its clauses start; a refused text gives no clauses.
@@ -26,7 +40,7 @@ impl<'a> TextSheet<'a> {
                 })
             }
             Err(_) => Ok(TextSheet {
-                bytes: &text[0..0],
+                bytes: &text[..0],
                 starts: Vec::new(heap),
                 verdict,
             }),

@@ -1,9 +1,12 @@
 // The answers of a text in place to a source's questions.
+ghost use Rattle.std.specs.Prelude.{false};
+ghost use Rattle.std.specs.Option.{option_map};
 ghost use Rattle.text.specs.Reading.{Opened};
+ghost use Rattle.text.specs.Literals.{literals_in, Listed};
 ghost use Rattle.text.specs.InPlace.{text_sheet, text_lawful};
 
 use crate::in_place::TextSheet;
-use crate::in_place::scan::{condition_from, outcome_from, size_from};
+use crate::in_place::literals::{Literal, Literals};
 use horn::source::Source;
 
 impl TextSheet<'_> {
@@ -11,13 +14,18 @@ impl TextSheet<'_> {
     fn opening(&self, i: u16) -> Option<usize>
         ensures { Opened self.now.bytes.now i result }
     {
-        if i == 0 {
-            return None;
-        }
-        match self.starts.get(i as usize - 1) {
-            None => None,
-            Some(p) => Some(*p as usize),
-        }
+        let place = self.starts.get(usize::from(i).checked_sub(1)?)?;
+        Some(usize::from(*place))
+    }
+
+    // The literals of clause `i`.
+    fn literals(&self, i: u16) -> Option<Literals<'_>>
+        ensures { Listed self.now.bytes.now i (option_map (λ literals. literals_in false literals.rest.now) result) }
+    {
+        let place = self.opening(i)?;
+        Some(Literals {
+            rest: &self.bytes[place + 1..],
+        })
     }
 }
 
@@ -27,10 +35,7 @@ impl Source for TextSheet<'_> {
     ghost lawful = { text_lawful };
 
     fn conditions(&self) -> u16 {
-        match self.verdict {
-            Ok(counts) => counts.conditions,
-            Err(_) => 0,
-        }
+        self.verdict.map_or(0, |counts| counts.conditions)
     }
 
     fn clauses(&self) -> u16 {
@@ -38,23 +43,17 @@ impl Source for TextSheet<'_> {
     }
 
     fn outcome(&self, i: u16) -> Option<u16> {
-        match self.opening(i) {
-            None => None,
-            Some(p) => Some(outcome_from(self.bytes, p + 1)),
-        }
+        let mut outcomes = self.literals(i)?.filter_map(Literal::outcome_condition);
+        Some(outcomes.next().unwrap_or(0))
     }
 
     fn body_len(&self, i: u16) -> Option<u16> {
-        match self.opening(i) {
-            None => None,
-            Some(p) => Some(size_from(self.bytes, p + 1)),
-        }
+        let body = self.literals(i)?.filter_map(Literal::body_condition);
+        Some(body.count() as u16)
     }
 
     fn body_at(&self, i: u16, j: u16) -> Option<u16> {
-        match self.opening(i) {
-            None => None,
-            Some(p) => condition_from(self.bytes, p + 1, j),
-        }
+        let mut body = self.literals(i)?.filter_map(Literal::body_condition);
+        body.nth(usize::from(j).checked_sub(1)?)
     }
 }

@@ -6,8 +6,8 @@ use Rattle.text.proofs.Starts.{few_clauses}
 use Rattle.text.proofs.Lawfulness.{low, lawful}
 use Rattle.text.proofs.in_place.TextSheet.new.Goals as goal
 
-pub starts_of-requires : goal.starts_of-requires
-starts_of-requires c = let j = c.in-Ok.ensures in record { short = j.0; counted = counted c.args.text.now _ _ _ j.1 }
+pub starts_of-requires-clause-counted : goal.starts_of-requires-clause-counted
+starts_of-requires-clause-counted c = counted c.args.text.now _ _ _ c.in-Ok.ensures.1
 
 pub invariant_of-result : goal.invariant_of-result
 invariant_of-result c =

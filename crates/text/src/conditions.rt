@@ -1,0 +1,41 @@
+// The condition that some bytes begin with.
+ghost use Rattle.std.specs.Prelude.{◌≡◌, ◌-◌, ◌==◌, min, length, slice_index};
+ghost use Rattle.text.specs.Judging.{run_value};
+ghost use Rattle.text.specs.Limits.{Read};
+
+use horn::limits::MAX_CONDITION;
+
+// What stands for every number above the greatest condition.
+const TOO_GREAT: u16 = MAX_CONDITION + 1;
+
+// The number whose digits the bytes begin with.
+fn number(bytes: &[u8]) -> u16
+    ensures { result ≡ min 1001 (run_value 0 bytes.now) }
+{
+    bytes
+        .iter()
+        .take_while(|byte| byte.is_ascii_digit())
+        .fold(0u16, |value, digit| {
+            value
+                .saturating_mul(10)
+                .saturating_add(u16::from(digit.saturating_sub(b'0')))
+        })
+        .min(TOO_GREAT)
+}
+
+// The condition whose P the bytes begin with.
+pub(crate) fn condition(bytes: &[u8]) -> Option<u16>
+    ensures { Read bytes.now 0 result }
+{
+    match bytes {
+        [b'P', digits @ ..] if matches!(digits, [b'1'..=b'9', ..]) => Some(number(digits)),
+        _ => None,
+    }
+}
+
+// Whether the bytes end with a ~, so that a condition after them is negated.
+pub(crate) fn ends_negated(bytes: &[u8]) -> bool
+    ensures { result ≡ (slice_index bytes.now (length bytes.now - 1) == 126) }
+{
+    matches!(bytes, [.., b'~'])
+}
