@@ -31,7 +31,7 @@ impl<'a> Model for Desk<'a> {
 }
 
 // An accepted sheet takes the place of the one held.
-fn accept<'a>(sheet: TextSheet<'a>, held: &mut TextSheet<'a>) -> Reply
+fn hold<'a>(sheet: TextSheet<'a>, held: &mut TextSheet<'a>) -> Reply
     ensures reply { reply_of result ≡ verdict_reply sheet.entry.verdict }
     ensures holds { text_sheet held.new ≡ kept sheet.entry.verdict (text_sheet sheet.entry) (text_sheet held.old) }
 {
@@ -60,8 +60,8 @@ impl<'a> Desk<'a> {
         ensures { IfOk result (λ r. Step self.old (meaning taken.entry) (reply_of r) self.new) }
     {
         Ok(match taken {
-            Record::Network(text) => accept(TextSheet::new(heap, text)?, &mut self.network),
-            Record::Show(text) => accept(TextSheet::new(heap, text)?, &mut self.show),
+            Record::Network(text) => hold(TextSheet::new(heap, text)?, &mut self.network),
+            Record::Show(text) => hold(TextSheet::new(heap, text)?, &mut self.show),
             Record::Opening => self.open(),
             Record::Asking(p) => self.ask(p),
         })

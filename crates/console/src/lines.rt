@@ -10,10 +10,10 @@ use std::alloc::AllocError;
 use std::fmt;
 use text::{Counts, Fault};
 
-// What a record is answered.
+// A record's answer, or why it is refused.
 pub(crate) type Reply = Result<Answer, Refused>;
 
-// What a record is answered, if it is not refused.
+// What a record is answered.
 #[derive(Clone, Copy)]
 pub(crate) enum Answer {
     // The counts of an accepted sheet.
@@ -29,20 +29,16 @@ impl fmt::Display for Answer {
 
     fn fmt<W: fmt::Write>(&self, f: &mut fmt::Formatter<W>) -> fmt::Result {
         match self {
-            Answer::Sheet(sheet) => {
-                write!(
-                    f,
-                    "{} {} {}",
-                    sheet.clauses, sheet.conditions, sheet.literals
-                )
-            }
-            Answer::Opening(round) => {
-                write!(
-                    f,
-                    "{} {} {}",
-                    round.clauses, round.conditions, round.discharged
-                )
-            }
+            Answer::Sheet(sheet) => write!(
+                f,
+                "{} {} {}",
+                sheet.clauses, sheet.conditions, sheet.literals
+            ),
+            Answer::Opening(opened) => write!(
+                f,
+                "{} {} {}",
+                opened.clauses, opened.conditions, opened.discharged
+            ),
             Answer::Asking(in_force) => write!(f, "{}", u8::from(*in_force)),
         }
     }
