@@ -10,6 +10,7 @@ pub mod Promise
 pub mod Writing
 pub mod Held
 pub mod Replies
+pub mod Refusals
 pub mod Good
 pub mod Sound
 pub mod Determined
