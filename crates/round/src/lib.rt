@@ -16,5 +16,5 @@ mod tables;
 pub mod theorems;
 
 pub use refusals::{Explained, Filed, Opened, Refusal};
-pub use runs::{Call, Event, Reply};
+pub use runs::{Answered, Call, Event, Reply};
 pub use sound::Round;
