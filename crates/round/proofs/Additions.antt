@@ -14,6 +14,7 @@ use Rattle.round.specs.Rows.{at, Filled, kept_outcome}
 use Rattle.round.specs.Ranks.{Ranks, ranked}
 use Rattle.round.specs.Held.{held_rows, held_sheet, Placed, Ended, Cut}
 use Rattle.round.specs.Good.{Usable, Stocked, Kept, Good, RankedAnew, BrokenBy, state_sheet, opened_sheet, state_standing, state_position, filing_of}
+use Rattle.round.specs.Filing.{TurnsBack}
 use Rattle.round.specs.Sound.{position_sheet}
 use Rattle.round.specs.declared.refusals.Refusal.TheVariants.{FilingsFull, Contradiction}
 use Rattle.round.specs.declared.state.State.{State}
@@ -53,12 +54,6 @@ module _ (st : State) (p : ℕ) (low : 1 ≤ p) (high : p ≤ st.tables.conditio
   not_outside : Outside (opened_sheet st) p → ⊥
   not_outside = ⊎_elim (λ h. omega arith) (λ h. omega arith)
 
-  pub fact_full : 256 ≤ vec_len st.tables.outcomes - st.opened → Step (state_position st) (fact p) (refusal FilingsFull) (state_position st)
-  fact_full h = record { answers = inr (not_outside, inl (omega (arith, filings_count st), refl)); sheet = refl; stands = refl }
-
-  pub ban_full : 256 ≤ vec_len st.tables.outcomes - st.opened → Step (state_position st) (ban p) (refusal FilingsFull) (state_position st)
-  ban_full h = record { answers = inr (not_outside, inl (omega (arith, filings_count st), refl)); sheet = refl; stands = refl }
-
   -- a ban of a condition in force names itself
   pub ban_refused : Good st → vec_len st.tables.outcomes - st.opened < 256 → (x : ℕ) → x ≡ get_or (vec_items st.rank) p x → 0 < x
       → (n : ℕ) → n ≡ vec_len st.tables.outcomes + 1 → Step (state_position st) (ban p) (refusal (Contradiction n)) (state_position st)
@@ -67,6 +62,11 @@ module _ (st : State) (p : ℕ) (low : 1 ≤ p) (high : p ≤ st.tables.conditio
     sheet = refl;
     stands = refl;
   }
+
+-- a filing more than may stand
+pub turned_back : (st : State) (p : ℕ) → Condition (opened_sheet st) p → 256 ≤ vec_len st.tables.outcomes - st.opened → TurnsBack st p (refusal FilingsFull)
+turned_back st p h l (of_fact q) e = record { answers = inr (not_outside st q (omega (arith, h.0)) (omega (arith, h.1)), inl (omega (arith, filings_count st), refl)); sheet = refl; stands = refl }
+turned_back st p h l (of_ban q) e = record { answers = inr (not_outside st q (omega (arith, h.0)) (omega (arith, h.1)), inl (omega (arith, filings_count st), refl)); sheet = refl; stands = refl }
 
 -- a condition as an outcome
 kept_some : (p : ℕ) → 1 ≤ p → kept_outcome p ≡ Some p
@@ -122,7 +122,7 @@ module _ (st st' : State) (t : Tables) (p : ℕ) (g : Good st) (opened : st'.ope
   module _ (low : 1 ≤ p) (high : p ≤ st.tables.conditions) (x : ℕ) (e : x ≡ get_or (vec_items st.rank) p x) (none : x ≤ 0) where
     pub ban_good : Usable st' → vec_items st'.rank ≡ vec_items st.rank → Good st'
     ban_good u same = record {
-      stocked = filed_stocked st st' (of_ban p) g (low, high) ban_grown u (writing_filled (held_rows st'.tables) ended.writing ended.body);
+      stocked = filed_stocked st st' (of_ban p) g (low, high) ban_grown u (writing_filled (held_rows st'.tables) st'.tables.rows ended.body);
       kept = filed_kept st st' (of_ban p) g (low, high) ban_grown;
       ranked = subst₂ Ranks (sym ban_sheet) (sym same) (ranks_banned (state_sheet st) (clause_of (of_ban p)) (vec_items st.rank) refl g.ranked);
       unbroken = ap satisfiable (next_is st st' (of_ban p) g (low, high) ban_grown)
@@ -153,7 +153,7 @@ module _ (st st' : State) (p : ℕ) (g : Good st) (opened : st'.opened ≡ st.op
   }
 
   pub fact_stocked : Usable st' → Stocked st'
-  fact_stocked u = filed_stocked st st' (of_fact p) g (low, high) fact_grown u (writing_filled (held_rows st'.tables) ended.writing ended.body)
+  fact_stocked u = filed_stocked st st' (of_fact p) g (low, high) fact_grown u (writing_filled (held_rows st'.tables) st'.tables.rows ended.body)
 
   -- the conditions were ranked anew
   module _ (st'' : State) (d : ℕ) (same : vec_items st'.rank ≡ vec_items st.rank) (anew : RankedAnew st' st'' d) where

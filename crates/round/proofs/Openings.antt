@@ -144,7 +144,7 @@ module _ (st st' : State) (t : st'.tables ≡ st.tables) (o : st'.opened ≡ st.
 
   pub unmoved_from : Stocked st → Usable st' → Unmoved st st'
   unmoved_from s u =
-      let w : Usable (mixed st st') = record { roomy = s.usable.roomy; ranks = u.ranks; spares = u.spares; choices = u.choices; ready = u.ready; mark_room = s.usable.mark_room } in
+      let w : Usable (mixed st st') = record { ranks = u.ranks; spares = u.spares; choices = u.choices; ready = u.ready; mark_room = s.usable.mark_room } in
       record {
         tables = t;
         opened = o;

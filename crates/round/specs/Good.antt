@@ -14,9 +14,8 @@ use Rattle.round.specs.Runs.{Position}
 use Rattle.round.specs.Rows.{at, Rows, Filled}
 use Rattle.round.specs.Ranks.{Ranks, ranked as has_rank}
 use Rattle.round.specs.Scratch.{Ready}
-use Rattle.round.specs.Held.{held_rows, held_sheet, Roomy}
+use Rattle.round.specs.Held.{held_rows, held_sheet}
 use Rattle.round.specs.declared.propagation.scratch.Scratch.{Scratch}
-use Rattle.round.specs.declared.tables.Tables.{Tables}
 use Rattle.round.specs.declared.state.State.{State}
 
 -- the sheet of a state: the clauses that it was opened on, then the filings
@@ -48,7 +47,6 @@ state_position st = record { sheet = opened_sheet st; standing = state_standing 
 
 -- All memory that a round can want is there, whatever it holds.
 pub record Usable (st : State) : Type 0 where
-  pub roomy : Roomy st.tables
   pub ranks : vec_len st.rank ≡ 1001
   pub spares : vec_len st.spare ≡ 1001
   pub choices : vec_len st.chosen ≡ 1001
@@ -111,13 +109,6 @@ Settled st st' (Ok n) = RankedAnew st st' n
 Settled st st' (Err b) = BrokenBy st st' b
 
 -- Each of these facts has one proof at most.
-roomy_prop : (t : Tables) → IsProp (Roomy t)
-roomy_prop t = λ p q i. record {
-  outcome_room = le_prop p.outcome_room q.outcome_room i;
-  start_room = le_prop p.start_room q.start_room i;
-  place_room = le_prop p.place_room q.place_room i;
-}
-
 ready_prop : (s : Scratch) → IsProp (Ready s)
 ready_prop s = λ p q i. record {
   queue = ℕ_set _ _ p.queue q.queue i;
@@ -129,7 +120,6 @@ ready_prop s = λ p q i. record {
 
 usable_prop : (st : State) → IsProp (Usable st)
 usable_prop st = λ p q i. record {
-  roomy = roomy_prop st.tables p.roomy q.roomy i;
   ranks = ℕ_set _ _ p.ranks q.ranks i;
   spares = ℕ_set _ _ p.spares q.spares i;
   choices = ℕ_set _ _ p.choices q.choices i;

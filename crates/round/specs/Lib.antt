@@ -12,6 +12,7 @@ pub mod Held
 pub mod Replies
 pub mod Refusals
 pub mod Good
+pub mod Filing
 pub mod Sound
 pub mod Determined
 pub mod Events

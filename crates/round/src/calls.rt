@@ -71,10 +71,8 @@ impl Round {
         ensures answer { Asks (round_sheet self.now) p (ask_answer result) }
         ensures step { Step (position self.now) (ask_call p) (ask_answer result) (position self.now) }
     {
-        if p == 0 || p > self.state.tables.conditions {
-            return Err(Refusal::NoCondition);
-        }
-        Ok(self.state.rank[p as usize] > 0)
+        let p = self.state.condition(p)?;
+        Ok(self.state.rank[p] > 0)
     }
 
     // Writes the set of the conditions in force, one bit each, and answers its size.

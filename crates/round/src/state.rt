@@ -120,9 +120,9 @@ impl State {
         ensures opened { opened_sheet self.new ≡ sheet_left result (S.Source.sheet source.now) }
         ensures standing { state_standing self.new ≡ nothing }
     {
-        if !self.tables.fill_from(source) {
+        if let Err(refusal) = self.tables.fill_from(source) {
             self.empty();
-            return Err(Refusal::TooLarge);
+            return Err(refusal);
         }
         let clauses = self.tables.clauses();
         self.opened = clauses;

@@ -1,54 +1,36 @@
-use Rattle.std.proofs.Common.{ℕ, ◌+◌, ◌-◌, ◌<◌, ◌≤◌, vec_len, refl, ap, arith}
-use Rattle.round.specs.Held.{held_rows}
+use Rattle.std.proofs.Common.{refl, arith}
+use Rattle.std.proofs.lemmas.Result.{err_from_is_err_and}
+use Rattle.round.specs.Calls.{of_ban}
 use Rattle.round.specs.declared.state.State.{State}
-use Rattle.round.proofs.Growing.{filled_writing}
 use Rattle.round.proofs.Positions.{room_places}
-use Rattle.round.proofs.Additions.{ban_full, ban_refused, ban_good, ban_step}
+use Rattle.round.proofs.Additions.{ban_refused, ban_good, ban_step}
 use Rattle.round.proofs.state.State.ban.Goals as goal
 
-pub returns-then-clauses-self-ge-MAX_FILINGS : goal.returns-then-clauses-self-ge-MAX_FILINGS
-returns-then-clauses-self-ge-MAX_FILINGS c = record {
-  good = c.requires;
-  step = ban_full c.args.self.now c.args.p (omega (arith, c.if-p-eq0.false)) c.if-p-self.false (omega (arith, c.clauses-clauses.ensures, c.if-clauses-self-ge-MAX_FILINGS.true));
-}
+pub returns-in_err-number-clause-step : goal.returns-in_err-number-clause-step
+returns-in_err-number-clause-step c =
+    let e = err_from_is_err_and c.from_residual.result c.from_residual.ensures.1 in
+    rw (e.1, e.2) (c.in_err-number.ensures.refused (of_ban c.args.p) refl)
 
-pub returns-then-index-gt0 : goal.returns-then-index-gt0
-returns-then-index-gt0 c = record {
-  good = c.requires;
-  step = ban_refused c.args.self.now c.args.p (omega (arith, c.if-p-eq0.false)) c.if-p-self.false c.requires (omega (arith, c.clauses-clauses.ensures, c.if-clauses-self-ge-MAX_FILINGS.false))
-      c.index.result.now c.index.ensures c.if-index-gt0.true (c.clauses-clauses.result + 1) (ap (λ (n : ℕ). n + 1) c.clauses-clauses.ensures);
-}
+pub returns-then-index-gt0-clause-step : goal.returns-then-index-gt0-clause-step
+returns-then-index-gt0-clause-step c =
+    let m = c.in_ok-number.ensures.may in
+    ban_refused c.args.self.now c.args.p m.condition.0 m.condition.1 c.requires m.room c.index.result.now c.index.ensures c.if-index-gt0.true c.in_ok-number.number m.number
 
 pub add_place-requires : goal.add_place-requires
-add_place-requires c =
-    let room = room_places c.args.self.now c.requires.stocked.filled c.requires.kept in
-    record {
-      writing = filled_writing (held_rows c.args.self.now.tables) c.requires.stocked.filled;
-      roomy = c.requires.stocked.usable.roomy;
-      room = omega (arith, room, c.clauses-clauses.ensures, c.if-clauses-self-ge-MAX_FILINGS.false);
-    }
+add_place-requires c = omega (arith, room_places c.args.self.now c.requires.stocked.filled c.requires.kept, c.in_ok-number.ensures.may.room)
 
-pub end_clause-requires : goal.end_clause-requires
-end_clause-requires c =
-    let room = room_places c.args.self.now c.requires.stocked.filled c.requires.kept in
-    record {
-      writing = c.add_place.ensures.placed.writing;
-      roomy = c.add_place.ensures.placed.roomy;
-      room = omega (arith, c.add_place.ensures.placed.clauses_count, c.requires.kept.few_opened, c.clauses-clauses.ensures, c.if-clauses-self-ge-MAX_FILINGS.false);
-      few = omega (arith, c.add_place.ensures.placed.places_count, room, c.clauses-clauses.ensures, c.if-clauses-self-ge-MAX_FILINGS.false);
-    }
-
-pub returns : goal.returns
-returns c =
+pub returns-clause-good : goal.returns-clause-good
+returns-clause-good c =
     let st = c.args.self.now in
     let u = c.requires.stocked.usable in
-    let p : ℕ = c.args.p in
+    let m = c.in_ok-number.ensures.may in
     let st' : State = record { tables = c.end_clause.new.self; opened = st.opened; marks = st.marks; rank = st.rank; spare = st.spare; chosen = st.chosen; scratch = st.scratch } in
-    let low : 1 ≤ p = omega (arith, c.if-p-eq0.false) in
-    let room : vec_len st.tables.outcomes - st.opened < 256 = omega (arith, c.clauses-clauses.ensures, c.if-clauses-self-ge-MAX_FILINGS.false) in
-    record {
-      good = ban_good st st' c.add_place.new.self p c.requires refl refl c.add_place.ensures.placed c.add_place.ensures.starts c.end_clause.ensures.ended c.end_clause.ensures.starts room low c.if-p-self.false c.index.result.now c.index.ensures c.if-index-gt0.false
-          (record { roomy = c.end_clause.ensures.ended.roomy; ranks = u.ranks; spares = u.spares; choices = u.choices; ready = u.ready; mark_room = u.mark_room }) refl;
-      step = ban_step st st' c.add_place.new.self p c.requires refl refl c.add_place.ensures.placed c.add_place.ensures.starts c.end_clause.ensures.ended c.end_clause.ensures.starts room low c.if-p-self.false c.index.result.now c.index.ensures c.if-index-gt0.false
-          (c.clauses-clauses.result + 1) (ap (λ (n : ℕ). n + 1) c.clauses-clauses.ensures);
-    }
+    ban_good st st' c.add_place.new.self c.args.p c.requires refl refl c.add_place.ensures.placed c.add_place.ensures.starts c.end_clause.ensures.ended c.end_clause.ensures.starts m.room m.condition.0 m.condition.1 c.index.result.now c.index.ensures c.if-index-gt0.false
+    (record { ranks = u.ranks; spares = u.spares; choices = u.choices; ready = u.ready; mark_room = u.mark_room }) refl
+
+pub returns-clause-step : goal.returns-clause-step
+returns-clause-step c =
+    let st = c.args.self.now in
+    let m = c.in_ok-number.ensures.may in
+    let st' : State = record { tables = c.end_clause.new.self; opened = st.opened; marks = st.marks; rank = st.rank; spare = st.spare; chosen = st.chosen; scratch = st.scratch } in
+    ban_step st st' c.add_place.new.self c.args.p c.requires refl refl c.add_place.ensures.placed c.add_place.ensures.starts c.end_clause.ensures.ended c.end_clause.ensures.starts m.room m.condition.0 m.condition.1 c.index.result.now c.index.ensures c.if-index-gt0.false c.in_ok-number.number m.number

@@ -11,7 +11,6 @@ returns c =
     let z : vec_items st.rank ≡ replicate 1001 0 = c.fill.ensures.items (λ y e. e) ∙ ap (λ (n : ℕ). replicate n 0) u.ranks in
     let e = good_empty st c.clear.ensures refl c.clear-2.ensures.items z
     (record {
-      roomy = c.clear.ensures.roomy;
       ranks = c.fill.ensures.len ∙ u.ranks;
       spares = u.spares;
       choices = u.choices;

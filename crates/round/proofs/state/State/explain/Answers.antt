@@ -33,7 +33,7 @@ returns c =
     record {
       good = record {
         stocked = record {
-          usable = record { roomy = u.roomy; ranks = u.ranks; spares = u.spares; choices = u.choices; ready = u.ready; mark_room = u.mark_room };
+          usable = record { ranks = u.ranks; spares = u.spares; choices = u.choices; ready = u.ready; mark_room = u.mark_room };
           filled = s.filled;
           few_conditions = s.few_conditions;
           few_clauses = s.few_clauses;

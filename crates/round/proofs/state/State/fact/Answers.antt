@@ -1,59 +1,46 @@
-use Rattle.std.proofs.Common.{ℕ, ◌+◌, ◌-◌, ◌<◌, ◌≤◌, vec_items, vec_len, refl, ap, arith}
-use Rattle.round.specs.Held.{held_rows}
+use Rattle.std.proofs.Common.{vec_items, refl, arith}
+use Rattle.std.proofs.lemmas.Result.{err_from_is_err_and}
+use Rattle.round.specs.Calls.{of_fact}
 use Rattle.round.specs.declared.state.State.{State}
-use Rattle.round.proofs.Growing.{filled_writing}
-use Rattle.round.proofs.Additions.{fact_full, fact_stocked, fact_good, fact_step, fact_good_again, fact_refused}
+use Rattle.round.proofs.Additions.{fact_stocked, fact_good, fact_step, fact_good_again, fact_refused}
 use Rattle.round.proofs.state.State.fact.Goals as goal
 
-pub returns-then-clauses-self-ge-MAX_FILINGS : goal.returns-then-clauses-self-ge-MAX_FILINGS
-returns-then-clauses-self-ge-MAX_FILINGS c = record {
-  good = c.requires;
-  step = fact_full c.args.self.now c.args.p (omega (arith, c.if-p-eq0.false)) c.if-p-self.false (omega (arith, c.clauses-clauses.ensures, c.if-clauses-self-ge-MAX_FILINGS.true));
-}
-
-pub end_clause-requires : goal.end_clause-requires
-end_clause-requires c = record {
-  writing = filled_writing (held_rows c.args.self.now.tables) c.requires.stocked.filled;
-  roomy = c.requires.stocked.usable.roomy;
-  room = omega (arith, c.requires.kept.few_opened, c.clauses-clauses.ensures, c.if-clauses-self-ge-MAX_FILINGS.false);
-  few = c.requires.stocked.few_places;
-}
+pub returns-in_err-number-clause-step : goal.returns-in_err-number-clause-step
+returns-in_err-number-clause-step c =
+    let e = err_from_is_err_and c.from_residual.result c.from_residual.ensures.1 in
+    rw (e.1, e.2) (c.in_err-number.ensures.refused (of_fact c.args.p) refl)
 
 pub settle-requires : goal.settle-requires
 settle-requires c =
-    let st = c.args.self.now in
     let u = c.requires.stocked.usable in
-    let room : vec_len st.tables.outcomes - st.opened < 256 = omega (arith, c.clauses-clauses.ensures, c.if-clauses-self-ge-MAX_FILINGS.false) in
-    fact_stocked st _ c.args.p c.requires refl refl c.end_clause.ensures.ended c.end_clause.ensures.starts room (omega (arith, c.if-p-eq0.false)) c.if-p-self.false
-    (record { roomy = c.end_clause.ensures.ended.roomy; ranks = u.ranks; spares = u.spares; choices = u.choices; ready = u.ready; mark_room = u.mark_room })
+    let m = c.in_ok-number.ensures.may in
+    fact_stocked c.args.self.now _ c.args.p c.requires refl refl c.end_clause.ensures.ended c.end_clause.ensures.starts m.room m.condition.0 m.condition.1
+    (record { ranks = u.ranks; spares = u.spares; choices = u.choices; ready = u.ready; mark_room = u.mark_room })
 
 pub returns-in-Err : goal.returns-in-Err
 returns-in-Err c =
     let st = c.args.self.now in
     let st'' = c.settle.new.self in
     let u = c.in-Err.ensures.unmoved.stocked.usable in
-    let p : ℕ = c.args.p in
+    let m = c.in_ok-number.ensures.may in
+    let p = c.args.p in
     let st' : State = record { tables = c.end_clause.new.self; opened = st.opened; marks = st.marks; rank = st.rank; spare = st.spare; chosen = st.chosen; scratch = st.scratch } in
     let st''' : State = record { tables = c.truncate.new.self; opened = st''.opened; marks = st''.marks; rank = st''.rank; spare = st''.spare; chosen = st''.chosen; scratch = st''.scratch } in
-    let room : vec_len st.tables.outcomes - st.opened < 256 = omega (arith, c.clauses-clauses.ensures, c.if-clauses-self-ge-MAX_FILINGS.false) in
-    let low : 1 ≤ p = omega (arith, c.if-p-eq0.false) in
     record {
-      good = fact_good_again st st' p c.requires refl refl c.end_clause.ensures.ended c.end_clause.ensures.starts room low c.if-p-self.false st'' st''' c.in-Err.ban c.clauses-clauses.result c.in-Err.ensures c.truncate.ensures c.clauses-clauses.ensures refl refl
-          (record { roomy = c.truncate.ensures.roomy; ranks = u.ranks; spares = u.spares; choices = u.choices; ready = u.ready; mark_room = u.mark_room })
+      good = fact_good_again st st' p c.requires refl refl c.end_clause.ensures.ended c.end_clause.ensures.starts m.room m.condition.0 m.condition.1 st'' st''' c.in-Err.ban _ c.in-Err.ensures c.truncate.ensures (omega (arith, m.number)) refl refl
+          (record { ranks = u.ranks; spares = u.spares; choices = u.choices; ready = u.ready; mark_room = u.mark_room })
           (λ i. vec_items (c.in-Err.ensures.ranks i));
-      step = fact_refused st st' p c.requires refl refl c.end_clause.ensures.ended c.end_clause.ensures.starts room low c.if-p-self.false st'' st''' c.in-Err.ban c.clauses-clauses.result c.in-Err.ensures c.truncate.ensures c.clauses-clauses.ensures refl refl;
+      step = fact_refused st st' p c.requires refl refl c.end_clause.ensures.ended c.end_clause.ensures.starts m.room m.condition.0 m.condition.1 st'' st''' c.in-Err.ban _ c.in-Err.ensures c.truncate.ensures (omega (arith, m.number)) refl refl;
     }
 
 pub returns-in-Ok : goal.returns-in-Ok
 returns-in-Ok c =
     let st = c.args.self.now in
     let st'' = c.settle.new.self in
-    let p : ℕ = c.args.p in
+    let m = c.in_ok-number.ensures.may in
+    let p = c.args.p in
     let st' : State = record { tables = c.end_clause.new.self; opened = st.opened; marks = st.marks; rank = st.rank; spare = st.spare; chosen = st.chosen; scratch = st.scratch } in
-    let room : vec_len st.tables.outcomes - st.opened < 256 = omega (arith, c.clauses-clauses.ensures, c.if-clauses-self-ge-MAX_FILINGS.false) in
-    let low : 1 ≤ p = omega (arith, c.if-p-eq0.false) in
     record {
-      good = fact_good st st' p c.requires refl refl c.end_clause.ensures.ended c.end_clause.ensures.starts room low c.if-p-self.false st'' c.in-Ok.discharged refl c.in-Ok.ensures;
-      step = fact_step st st' p c.requires refl refl c.end_clause.ensures.ended c.end_clause.ensures.starts room low c.if-p-self.false st'' c.in-Ok.discharged refl c.in-Ok.ensures
-          (c.clauses-clauses.result + 1) (ap (λ (n : ℕ). n + 1) c.clauses-clauses.ensures);
+      good = fact_good st st' p c.requires refl refl c.end_clause.ensures.ended c.end_clause.ensures.starts m.room m.condition.0 m.condition.1 st'' c.in-Ok.discharged refl c.in-Ok.ensures;
+      step = fact_step st st' p c.requires refl refl c.end_clause.ensures.ended c.end_clause.ensures.starts m.room m.condition.0 m.condition.1 st'' c.in-Ok.discharged refl c.in-Ok.ensures c.in_ok-number.number m.number;
     }

@@ -29,7 +29,6 @@ returns c =
     let r = c.in_ok-rank.ensures in
     let e = good_empty _ t refl m.items (r.items_if_clones_equal (λ y e. e))
     (record {
-      roomy = t.roomy;
       ranks = r.len;
       spares = c.in_ok-spare.ensures.len;
       choices = c.in_ok-chosen.ensures.len;

@@ -23,7 +23,7 @@ returns c =
     record {
       tables = refl;
       stocked = record {
-        usable = record { roomy = s.usable.roomy; ranks = s.usable.ranks; spares = s.usable.spares; choices = s.usable.choices; ready = c.ranks.ensures.ready; mark_room = s.usable.mark_room };
+        usable = record { ranks = s.usable.ranks; spares = s.usable.spares; choices = s.usable.choices; ready = c.ranks.ensures.ready; mark_room = s.usable.mark_room };
         filled = s.filled;
         few_conditions = s.few_conditions;
         few_clauses = s.few_clauses;

@@ -46,7 +46,7 @@ returns-in-Some c =
     c.deref.result.now new (c.deref.ensures.value ∙ with_items_is st.spare new n) r c.in-Some.ensures in
     record {
       unmoved = unmoved_from st _ refl refl refl s
-          (record { roomy = s.usable.roomy; ranks = s.usable.ranks; spares = s.usable.spares; choices = s.usable.choices; ready = c.ranks.ensures.ready; mark_room = s.usable.mark_room });
+          (record { ranks = s.usable.ranks; spares = s.usable.spares; choices = s.usable.choices; ready = c.ranks.ensures.ready; mark_room = s.usable.mark_room });
       ranks = refl;
       broken = scan.0;
       lowest = scan.1;
@@ -67,7 +67,6 @@ returns-in-None c =
     record {
       unmoved = unmoved_from st _ refl refl refl s
           (record {
-            roomy = s.usable.roomy;
             ranks = ap vec_len c.swap.ensures.x_after ∙ s.usable.spares;
             spares = ap vec_len c.swap.ensures.y_after ∙ s.usable.ranks;
             choices = s.usable.choices;

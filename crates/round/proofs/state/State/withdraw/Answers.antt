@@ -24,7 +24,6 @@ truncate-requires-2 c =
     let k = stood_within c.args.self.now c.args.m c.index.result.now c.requires.kept (omega (arith, c.if-m-eq0.false)) (omega (arith, c.len.ensures, c.if-m-len.false)) c.index.ensures in
     record {
       filled = c.requires.stocked.filled;
-      roomy = c.requires.stocked.usable.roomy;
       few = omega (arith, k, c.clauses.ensures);
     }
 
@@ -37,7 +36,7 @@ ranks-requires c =
     let st' : State = record { tables = c.truncate-2.new.self; opened = st.opened; marks = c.truncate.new.self; rank = st.rank; spare = st.spare; chosen = st.chosen; scratch = st.scratch } in
     let stocked : Stocked st' =
     withdrawn_stocked st st' c.args.m c.index.result.now c.requires low high (stood_read st c.args.m c.index.result.now c.requires.kept low high c.index.ensures) refl c.truncate-2.ensures c.truncate.ensures.items
-    (record { roomy = c.truncate-2.ensures.roomy; ranks = u.ranks; spares = u.spares; choices = u.choices; ready = u.ready; mark_room = omega (arith, c.truncate.ensures.capacity, u.mark_room) }) in
+    (record { ranks = u.ranks; spares = u.spares; choices = u.choices; ready = u.ready; mark_room = omega (arith, c.truncate.ensures.capacity, u.mark_room) }) in
     let few = lent_few st' stocked (rows_of c.rows.result) c.rows.ensures in
     record {
       lawful = lent_rows st' stocked (rows_of c.rows.result) c.rows.ensures;
@@ -57,7 +56,7 @@ returns c =
     let st' : State = record { tables = c.truncate-2.new.self; opened = st.opened; marks = c.truncate.new.self; rank = with_items st.rank c.ranks.new.rank; spare = st.spare; chosen = st.chosen; scratch = c.ranks.new.scratch } in
     let stocked : Stocked st' =
     withdrawn_stocked st st' m n c.requires low high stood refl c.truncate-2.ensures c.truncate.ensures.items
-    (record { roomy = c.truncate-2.ensures.roomy; ranks = u.ranks; spares = u.spares; choices = u.choices; ready = c.ranks.ensures.ready; mark_room = omega (arith, c.truncate.ensures.capacity, u.mark_room) }) in
+    (record { ranks = u.ranks; spares = u.spares; choices = u.choices; ready = c.ranks.ensures.ready; mark_room = omega (arith, c.truncate.ensures.capacity, u.mark_room) }) in
     let size : length c.ranks.new.rank ≡ st.rank.len = omega (arith, c.ranks.auto.rank, c.deref_mut.ensures.len, u.ranks, u.spares) in
     record {
       good = record {
