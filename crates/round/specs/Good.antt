@@ -2,7 +2,6 @@
 use Rattle.std.specs.Prelude.{◌≡◌, ℕ, ◌+◌, ◌<◌, ◌≤◌, Bool, true, false, not, ◌&&◌, List, map, length, take, drop, Some, None, Ok, Err, vec_items, vec_len, vec_capacity, Option, Result, ◌==◌, slice_index}
 use Rattle.std.proofs.Math.Bool.{Bool-set}
 use mathlib.Core.HLevel.{Π_prop}
-use Rattle.std.proofs.Math.Logic.{∥∥₁_elim}
 use Rattle.std.proofs.Math.Bridge.{le_prop}
 use Rattle.std.proofs.Math.Nat.{ℕ_set}
 use Rattle.horn.specs.Sheets.{Sheet, Clause, all_of, outcome_size}
@@ -157,14 +156,10 @@ kept_prop st = λ p q i. record {
   marks_stand = Π_prop (λ a. Π_prop (λ _. le_prop)) p.marks_stand q.marks_stand i;
 }
 
-good_prop : (st : State) → IsProp (Good st)
+pub good_prop : (st : State) → IsProp (Good st)
 good_prop st = λ p q i. record {
   stocked = stocked_prop st p.stocked q.stocked i;
   kept = kept_prop st p.kept q.kept i;
   ranked = Π_prop (λ k. Π_prop (λ _. ℕ_set _ _)) p.ranked q.ranked i;
   unbroken = Bool-set _ _ p.unbroken q.unbroken i;
 }
-
--- the facts of a round, taken out
-pub good : (st : State) → ∥ Good st ∥₁ → Good st
-good st h = ∥∥₁_elim h (good_prop st) (λ g. g)

@@ -4,7 +4,7 @@ use Rattle.horn.specs.Sheets.{Sheet}
 use Rattle.round.specs.Answers.{Asks}
 use Rattle.round.specs.Replies.{ask_answer}
 use Rattle.round.specs.Rows.{at}
-use Rattle.round.specs.Good.{good, state_sheet}
+use Rattle.round.specs.Good.{state_sheet}
 use Rattle.round.specs.Sound.{round_is}
 use Rattle.round.proofs.Meaning.{in_force_ranked}
 use Rattle.round.proofs.Replying.{asks_ok}
@@ -13,7 +13,7 @@ use Rattle.round.proofs.sound.Round.ask.Goals as goal
 pub returns : goal.returns
 returns c =
     let st = c.args.self.now.state in
-    let g = good st c.args.self.now.ok in
+    let g = c.args.self.now.ok in
     let w = c.in_ok-p.ensures.within in
     let ps = vec_items st.rank in
     let is : c.index.result.now ≡ at ps c.args.p = get_or_read_under ps c.in_ok-p.p (vec_len st.rank) c.index.result.now 0 c.index.ensures (omega (arith, w.0, w.1.1, g.stocked.few_conditions, g.stocked.usable.ranks)) st.rank.ok.0 ∙ ap (at ps) w.0 in

@@ -4,16 +4,15 @@ use Rattle.round.specs.Answers.{Answer, Explains}
 use Rattle.round.specs.Calls.{Standing}
 use Rattle.round.specs.Runs.{Position}
 use Rattle.round.specs.Replies.{explain_answer}
-use Rattle.round.specs.Good.{good}
 use Rattle.round.specs.Sound.{round_is}
 use Rattle.round.proofs.Replying.{explain_leaves}
 use Rattle.round.proofs.sound.Round.explain.Goals as goal
 
 pub explain-requires : goal.explain-requires
-explain-requires c = good c.args.self.now.state c.args.self.now.ok
+explain-requires c = c.args.self.now.ok
 
 pub invariant_of-self : goal.invariant_of-self
-invariant_of-self c = record { ok = ∣ c.explain.ensures.good ∣₁ }
+invariant_of-self c = record { ok = c.explain.ensures.good }
 
 pub returns : goal.returns
 returns c =

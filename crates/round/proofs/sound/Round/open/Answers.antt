@@ -1,15 +1,14 @@
 use Rattle.std.proofs.Common.{sym, ◌∙◌}
-use Rattle.round.specs.Good.{good}
 use Rattle.round.specs.Replies.{opening_answer}
 use Rattle.round.proofs.Replying.{opened_left}
 use Rattle.round.proofs.Promise.{opening_promised}
 use Rattle.round.proofs.sound.Round.open.Goals as goal
 
 pub open-requires : goal.open-requires
-open-requires g c = (good c.args.self.now.state c.args.self.now.ok).stocked.usable
+open-requires g c = c.args.self.now.ok.stocked.usable
 
 pub invariant_of-self : goal.invariant_of-self
-invariant_of-self g c = record { ok = ∣ c.open.ensures.good ∣₁ }
+invariant_of-self g c = record { ok = c.open.ensures.good }
 
 pub returns : goal.returns
 returns g c = record {
