@@ -19,6 +19,7 @@ pub record Placed (t t' : Tables) (p : ℕ) : Type 0 where
   pub body : unfinished (held_rows t') ≡ unfinished (held_rows t) ++ p ∷ []
   pub clauses_count : vec_len t'.outcomes ≡ vec_len t.outcomes
   pub places_count : vec_len t'.places ≡ vec_len t.places + 1
+  pub starts : vec_items t'.starts ≡ vec_items t.starts
 
 -- The clause that was being written is ended, with this outcome.
 pub record Ended (t t' : Tables) (outcome : ℕ) : Type 0 where
@@ -27,6 +28,7 @@ pub record Ended (t t' : Tables) (outcome : ℕ) : Type 0 where
   pub body : unfinished (held_rows t') ≡ []
   pub clauses_count : vec_len t'.outcomes ≡ vec_len t.outcomes + 1
   pub places_count : vec_len t'.places ≡ vec_len t.places
+  pub starts : vec_items t'.starts ≡ vec_items t.starts ++ vec_len t.places ∷ []
 
 -- The first n clauses are kept.
 pub record Cut (t t' : Tables) (n : ℕ) : Type 0 where

@@ -61,8 +61,7 @@ impl Tables {
     // One more place in the body that is being written.
     pub(crate) fn add_place(&mut self, p: u16)
         requires { vec_len self.old.places < PLACES }
-        ensures placed { Placed self.old self.new p }
-        ensures starts { self.new.starts.items ≡ self.old.starts.items }
+        ensures { Placed self.old self.new p }
     {
         self.places.push_reserved(p);
     }
@@ -70,8 +69,7 @@ impl Tables {
     // Ends the clause whose body was written.
     pub(crate) fn end_clause(&mut self, outcome: u16)
         requires { vec_len self.old.outcomes < CLAUSES }
-        ensures ended { Ended self.old self.new outcome }
-        ensures starts { self.new.starts.items ≡ self.old.starts.items ++ vec_len self.old.places ∷ [] }
+        ensures { Ended self.old self.new outcome }
     {
         let end = self.places.len() as u16;
         self.outcomes.push_reserved(outcome);

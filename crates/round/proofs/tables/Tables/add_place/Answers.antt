@@ -5,8 +5,8 @@ use Rattle.round.specs.Writing.{unfinished}
 use Rattle.round.proofs.Growing.{clauses_place, body_place}
 use Rattle.round.proofs.tables.Tables.add_place.Goals as goal
 
-pub returns-clause-placed : goal.returns-clause-placed
-returns-clause-placed c =
+pub returns : goal.returns
+returns c =
     let t = c.args.self.now in
     let os : List ℕ = vec_items t.outcomes in
     let ss : List ℕ = vec_items t.starts in
@@ -17,4 +17,5 @@ returns-clause-placed c =
       body = ap (λ (q : List ℕ). unfinished (rows os ss q)) is ∙ body_place os ss ps t.rows c.args.p;
       clauses_count = refl;
       places_count = c.push_reserved.ensures.len;
+      starts = refl;
     }

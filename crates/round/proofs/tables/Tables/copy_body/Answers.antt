@@ -8,7 +8,7 @@ use Rattle.round.proofs.tables.Tables.copy_body.Goals as goal
 pub loop-j-preserved : goal.loop-j-preserved
 loop-j-preserved g c =
     let v = c.loop-j.invariant in
-    let a = c.add_place.ensures.placed in
+    let a = c.add_place.ensures in
     record {
       sheet = a.sheet ∙ v.sheet;
       body = body_more (clause_at (g.S.Source.sheet c.args.source.now) c.args.i) c.args.n c.loop-j.j c.unwrap_or.result c.body_at.result (unfinished (held_rows c.loop-j.self)) (unfinished (held_rows c.add_place.new.self)) c.requires.size (omega arith) (omega arith) v.body c.body_at.ensures c.unwrap_or.ensures a.body;
@@ -23,5 +23,5 @@ returns-clause-body g c = body_all (clause_at (g.S.Source.sheet c.args.source.no
 pub returns-2-clause-body : goal.returns-2-clause-body
 returns-2-clause-body g c =
     let o = clause_at (g.S.Source.sheet c.args.source.now) c.args.i in
-    let more = body_more o c.args.n c.loop-j.j c.unwrap_or.result c.body_at.result (unfinished (held_rows c.loop-j.self)) (unfinished (held_rows c.add_place.new.self)) c.requires.size (omega arith) (omega arith) c.loop-j.invariant.body c.body_at.ensures c.unwrap_or.ensures c.add_place.ensures.placed.body in
+    let more = body_more o c.args.n c.loop-j.j c.unwrap_or.result c.body_at.result (unfinished (held_rows c.loop-j.self)) (unfinished (held_rows c.add_place.new.self)) c.requires.size (omega arith) (omega arith) c.loop-j.invariant.body c.body_at.ensures c.unwrap_or.ensures c.add_place.ensures.body in
     body_all o c.args.n (c.loop-j.j + 1) (unfinished (held_rows c.add_place.new.self)) c.requires.size (omega arith) more

@@ -32,7 +32,7 @@ loop-i-preserved g c =
     let b = c.copy_body.ensures in
     rw (c.from.ensures, c.from-in-loop-i.ensures)
     (copied_more s c.loop-i.self c.copy_body.new.self c.end_clause.new.self i c.loop-i.literals c.unwrap_or-size.result c.unwrap_or-outcome.result c.min.result w (omega arith) h c.loop-i.invariant n o c.min.ensures
-    (omega (arith, c.if-literals-from.false, c.from.ensures, c.from-in-loop-i.ensures)) b.sheet b.body b.clauses b.places c.end_clause.ensures.ended)
+    (omega (arith, c.if-literals-from.false, c.from.ensures, c.from-in-loop-i.ensures)) b.sheet b.body b.clauses b.places c.end_clause.ensures)
 
 pub returns-else-literals-from-clause-kept : goal.returns-else-literals-from-clause-kept
 returns-else-literals-from-clause-kept g c =
@@ -45,5 +45,5 @@ returns-else-literals-from-clause-kept g c =
     let b = c.copy_body.ensures in
     let more =
     copied_more s c.loop-i.self c.copy_body.new.self c.end_clause.new.self i c.loop-i.literals c.unwrap_or-size.result c.unwrap_or-outcome.result c.min.result w (omega arith) h c.loop-i.invariant n o c.min.ensures
-    (omega (arith, c.if-literals-from.false, c.from.ensures, c.from-in-loop-i.ensures)) b.sheet b.body b.clauses b.places c.end_clause.ensures.ended in
+    (omega (arith, c.if-literals-from.false, c.from.ensures, c.from-in-loop-i.ensures)) b.sheet b.body b.clauses b.places c.end_clause.ensures in
     copied_all s c.end_clause.new.self (i + 1) _ (omega (arith, c.clauses-clauses.ensures)) (omega (arith, c.clauses-clauses.ensures)) (omega (arith, c.clauses-clauses.ensures)) more

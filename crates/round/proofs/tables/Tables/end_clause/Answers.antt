@@ -4,8 +4,8 @@ use Rattle.round.specs.Writing.{unfinished}
 use Rattle.round.proofs.Growing.{clauses_end, body_end}
 use Rattle.round.proofs.tables.Tables.end_clause.Goals as goal
 
-pub returns-clause-ended : goal.returns-clause-ended
-returns-clause-ended c =
+pub returns : goal.returns
+returns c =
     let t = c.args.self.now in
     let os : List ℕ = vec_items t.outcomes in
     let ss : List ℕ = vec_items t.starts in
@@ -19,4 +19,5 @@ returns-clause-ended c =
       body = ap₂ (λ (x y : List ℕ). unfinished (rows x y ps)) io ie ∙ body_end os ss ps t.rows o;
       clauses_count = c.push_reserved.ensures.len;
       places_count = refl;
+      starts = c.push_reserved-2.ensures.items ∙ ap (λ (e : ℕ). ss ++ e ∷ []) c.len-end.ensures;
     }
