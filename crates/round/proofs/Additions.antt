@@ -1,6 +1,6 @@
 -- A fact or a ban that is filed.
-use Rattle.std.proofs.Common.{◌≡◌, ℕ, zero, suc, ◌+◌, ◌-◌, ◌<◌, ◌≤◌, true, false, not, ◌&&◌, List, [], ◌∷◌, ◌++◌, length, get_or, take, Some, vec_items, vec_len, Option, sym, refl, ap, ◌∙◌, subst, ap₂, subst₂, inl, inr, ⊎_elim, arith}
-use Rattle.std.proofs.lemmas.List.{get_or_read_under, length_push, take_at}
+use Rattle.std.proofs.Common.{◌≡◌, ℕ, zero, suc, ◌+◌, ◌-◌, ◌<◌, ◌≤◌, true, false, not, ◌&&◌, List, [], ◌∷◌, ◌++◌, length, take, Some, vec_items, vec_len, Option, sym, refl, ap, ◌∙◌, subst, ap₂, subst₂, inl, inr, ⊎_elim, arith}
+use Rattle.std.proofs.lemmas.List.{length_push, take_at}
 use Rattle.std.proofs.lemmas.Bool.{lt-ltb, le-ltb, both_ways}
 use Rattle.horn.specs.Sheets.{Sheet, Clause, Condition, Lawful}
 use Rattle.horn.specs.Levels.{in_force}
@@ -36,18 +36,18 @@ next_number st g f =
     ∙ ap (λ (n : ℕ). n + 1) (ap (λ (s : Sheet). length s.clauses) (now_is st g) ∙ clauses_count st)
 
 -- a condition's rank as it was read says whether the condition is in force
-module _ (st : State) (g : Good st) (p x : ℕ) (low : 1 ≤ p) (high : p ≤ st.tables.conditions) (e : x ≡ get_or (vec_items st.rank) p x) where
-  read : x ≡ at (vec_items st.rank) p
-  read = get_or_read_under (vec_items st.rank) p (vec_len st.rank) x 0 e (omega (arith, g.stocked.few_conditions, g.stocked.usable.ranks)) st.rank.ok.0
+module _ (st : State) (g : Good st) (p x : ℕ) (low : 1 ≤ p) (high : p ≤ st.tables.conditions) (e : x ≡ at st.rank.value p) where
+  read : x ≡ at (st.rank.value) p
+  read = e
 
-  ranked_is : ranked (vec_items st.rank) p ≡ in_force (standing_sheet (opened_sheet st) (state_standing st)) p
-  ranked_is = in_force_ranked (state_sheet st) (vec_items st.rank) g.ranked p low ∙ sym (ap (λ (s : Sheet). in_force s p) (now_is st g))
+  ranked_is : ranked (st.rank.value) p ≡ in_force (standing_sheet (opened_sheet st) (state_standing st)) p
+  ranked_is = in_force_ranked (state_sheet st) (st.rank.value) g.ranked p low ∙ sym (ap (λ (s : Sheet). in_force s p) (now_is st g))
 
   in_force_read : 0 < x → in_force (standing_sheet (opened_sheet st) (state_standing st)) p ≡ true
-  in_force_read h = sym ranked_is ∙ lt-ltb 0 (at (vec_items st.rank) p) (omega (arith, read))
+  in_force_read h = sym ranked_is ∙ lt-ltb 0 (at (st.rank.value) p) (omega (arith, read))
 
   no_rank_read : x ≤ 0 → in_force (standing_sheet (opened_sheet st) (state_standing st)) p ≡ false
-  no_rank_read h = sym ranked_is ∙ le-ltb 0 (at (vec_items st.rank) p) (omega (arith, read))
+  no_rank_read h = sym ranked_is ∙ le-ltb 0 (at (st.rank.value) p) (omega (arith, read))
 
 module _ (st : State) (p : ℕ) (low : 1 ≤ p) (high : p ≤ st.tables.conditions) where
   not_outside : Outside (opened_sheet st) p → ⊥
@@ -60,7 +60,7 @@ module _ (st : State) (p : ℕ) (low : 1 ≤ p) (high : p ≤ st.tables.conditio
   ban_full h = record { answers = inr (not_outside, inl (omega (arith, filings_count st), refl)); sheet = refl; stands = refl }
 
   -- a ban of a condition in force names itself
-  pub ban_refused : Good st → vec_len st.tables.outcomes - st.opened < 256 → (x : ℕ) → x ≡ get_or (vec_items st.rank) p x → 0 < x
+  pub ban_refused : Good st → vec_len st.tables.outcomes - st.opened < 256 → (x : ℕ) → x ≡ at st.rank.value p → 0 < x
       → (n : ℕ) → n ≡ vec_len st.tables.outcomes + 1 → Step (state_position st) (ban p) (refusal (Contradiction n)) (state_position st)
   ban_refused g h x e r n is = record {
     answers = inr (not_outside, inr (λ l. omega (arith, filings_count st), inl (in_force_read st g p x low high e r, ap (λ (k : ℕ). refusal (Contradiction k)) (is ∙ sym (next_number st g (of_ban p))))));
@@ -119,12 +119,12 @@ module _ (st st' : State) (t : Tables) (p : ℕ) (g : Good st) (opened : st'.ope
   ban_sheet : state_sheet st' ≡ added (state_sheet st) (clause_of (of_ban p) ∷ [])
   ban_sheet = ap₂ {C = Sheet} (λ (n : ℕ) (cs : List Clause). record { top = n; clauses = cs }) ban_grown.conditions ban_grown.clauses
 
-  module _ (low : 1 ≤ p) (high : p ≤ st.tables.conditions) (x : ℕ) (e : x ≡ get_or (vec_items st.rank) p x) (none : x ≤ 0) where
-    pub ban_good : Usable st' → vec_items st'.rank ≡ vec_items st.rank → Good st'
+  module _ (low : 1 ≤ p) (high : p ≤ st.tables.conditions) (x : ℕ) (e : x ≡ at st.rank.value p) (none : x ≤ 0) where
+    pub ban_good : Usable st' → st'.rank.value ≡ st.rank.value → Good st'
     ban_good u same = record {
       stocked = filed_stocked st st' (of_ban p) g (low, high) ban_grown u (writing_filled (held_rows st'.tables) ended.writing ended.body);
       kept = filed_kept st st' (of_ban p) g (low, high) ban_grown;
-      ranked = subst₂ Ranks (sym ban_sheet) (sym same) (ranks_banned (state_sheet st) (clause_of (of_ban p)) (vec_items st.rank) refl g.ranked);
+      ranked = subst₂ Ranks (sym ban_sheet) (sym same) (ranks_banned (state_sheet st) (clause_of (of_ban p)) (st.rank.value) refl g.ranked);
       unbroken = ap satisfiable (next_is st st' (of_ban p) g (low, high) ban_grown)
           ∙ sound_ban (opened_sheet st) (state_standing st).filings p (low, high) (good_sound st g) (no_rank_read st g p x low high e none);
     }
@@ -156,7 +156,7 @@ module _ (st st' : State) (p : ℕ) (g : Good st) (opened : st'.opened ≡ st.op
   fact_stocked u = filed_stocked st st' (of_fact p) g (low, high) fact_grown u (writing_filled (held_rows st'.tables) ended.writing ended.body)
 
   -- the conditions were ranked anew
-  module _ (st'' : State) (d : ℕ) (same : vec_items st'.rank ≡ vec_items st.rank) (anew : RankedAnew st' st'' d) where
+  module _ (st'' : State) (d : ℕ) (same : st'.rank.value ≡ st.rank.value) (anew : RankedAnew st' st'' d) where
     sheet_anew : state_sheet st'' ≡ next_sheet (opened_sheet st) (state_standing st) (of_fact p)
     sheet_anew = ap held_sheet anew.unmoved.tables ∙ next_is st st' (of_fact p) g (low, high) fact_grown
 
@@ -174,8 +174,8 @@ module _ (st st' : State) (p : ℕ) (g : Good st) (opened : st'.opened ≡ st.op
     discharged : d ≡ newly_discharged (standing_sheet (opened_sheet st) (state_standing st)) (next_sheet (opened_sheet st) (state_standing st) (of_fact p))
     discharged = anew.discharged
         ∙ ap₂ (λ (s : Sheet) (table : List ℕ). places (λ q. in_force s q && not (ranked table q)) s.clauses) sheet_anew same
-        ∙ newly_counted (standing_sheet (opened_sheet st) (state_standing st)) (next_sheet (opened_sheet st) (state_standing st) (of_fact p)) (vec_items st.rank)
-        (next_lawful st st' (of_fact p) g (low, high) fact_grown) (subst (λ (s : Sheet). Ranks s (vec_items st.rank)) (sym (now_is st g)) g.ranked)
+        ∙ newly_counted (standing_sheet (opened_sheet st) (state_standing st)) (next_sheet (opened_sheet st) (state_standing st) (of_fact p)) (st.rank.value)
+        (next_lawful st st' (of_fact p) g (low, high) fact_grown) (subst (λ (s : Sheet). Ranks s (st.rank.value)) (sym (now_is st g)) g.ranked)
 
     pub fact_step : (n : ℕ) → n ≡ vec_len st.tables.outcomes + 1 → Step (state_position st) (fact p) (ok (n ∷ (d ∷ [])) []) (state_position st'')
     fact_step n is = record {
@@ -244,7 +244,7 @@ module _ (st st' : State) (p : ℕ) (g : Good st) (opened : st'.opened ≡ st.op
     back_is : state_sheet st''' ≡ state_sheet st
     back_is = sheet_of st''' (opened_sheet st) (state_standing st) back_kept back_sheet back_standing ∙ now_is st g
 
-    pub fact_good_again : Usable st''' → vec_items st'''.rank ≡ vec_items st.rank → Good st'''
+    pub fact_good_again : Usable st''' → st'''.rank.value ≡ st.rank.value → Good st'''
     fact_good_again u same = record {
       stocked = stocked_at st''' u cut.filled (omega (arith, ap (λ (s : Sheet). s.top) back_is, g.stocked.few_conditions)) back_kept (subst Lawful (sym back_is) (stocked_lawful st g.stocked));
       kept = back_kept;

@@ -1,7 +1,10 @@
 pub mod Rows
+pub mod Lent
+pub mod Lending
 pub mod Occurrences
 pub mod Ranks
 pub mod Steps
+pub mod Levels
 pub mod Answers
 pub mod Exact
 pub mod Calls
@@ -14,6 +17,5 @@ pub mod Good
 pub mod Sound
 pub mod Determined
 pub mod Events
-pub mod Scratch
 pub mod Examples
 pub mod Needed

@@ -27,9 +27,9 @@ impl State {
         let number = clauses + 1;
         self.tables.end_clause(p);
         match self.settle() {
-            Err(ban) => {
+            Err(refusal) => {
                 self.tables.truncate(clauses);
-                Err(Refusal::Contradiction(ban))
+                Err(refusal)
             }
             Ok(discharged) => Ok(Filed { number, discharged }),
         }

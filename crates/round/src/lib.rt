@@ -10,6 +10,7 @@ mod questions;
 mod refusals;
 mod rolling;
 mod runs;
+mod sizes;
 mod sound;
 mod state;
 mod tables;

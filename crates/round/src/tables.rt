@@ -2,7 +2,9 @@
 ghost use Rattle.std.specs.Prelude.{◌≡◌, ◌∷◌, ◌++◌, ◌+◌, ◌<◌, ◌≤◌, true, false, [], IfOk, Some, vec_len, slice_index};
 ghost use Rattle.horn.specs.Sheets.{empty_sheet, IsTooLarge};
 ghost use Rattle.horn.specs.Sources.{outcome_at, size_at, condition_at};
-ghost use Rattle.round.specs.Rows.{rows_of, Filled};
+ghost use Rattle.round.specs.Lending.{lent_sheet};
+ghost use Rattle.round.specs.Lent.{SheetRows};
+ghost use Rattle.round.specs.Rows.{Filled};
 ghost use Rattle.round.specs.Writing.{Writing, unfinished};
 ghost use Rattle.round.specs.Held.{held_rows, held_sheet, Roomy, Placed, Ended, Cut, body_at, Copied, Emptied, Holds};
 
@@ -99,9 +101,11 @@ impl Tables {
 
     // The clauses, lent.
     pub(crate) fn rows(&self) -> ClauseRows<'_>
-        ensures { rows_of result ≡ held_rows self.now }
+        requires { SheetRows self.now.conditions (held_rows self.now) }
+        ensures { lent_sheet result ≡ held_sheet self.now }
     {
         ClauseRows {
+            conditions: self.conditions,
             outcomes: &self.outcomes,
             starts: &self.starts,
             places: &self.places,

@@ -1,4 +1,5 @@
-use Rattle.std.proofs.Common.{ℕ, ◌+◌, ◌-◌, ◌<◌, ◌≤◌, vec_len, refl, ap, arith}
+use Rattle.std.proofs.Common.{ℕ, ◌+◌, ◌-◌, ◌<◌, ◌≤◌, List, vec_len, refl, ap, arith}
+use Rattle.round.specs.Rows.{at}
 use Rattle.round.specs.Held.{held_rows}
 use Rattle.round.specs.declared.state.State.{State}
 use Rattle.round.proofs.Growing.{filled_writing}
@@ -12,11 +13,11 @@ returns-then-clauses-self-ge-MAX_FILINGS c = record {
   step = ban_full c.args.self.now c.args.p (omega (arith, c.if-p-eq0.false)) c.if-p-self.false (omega (arith, c.clauses-clauses.ensures, c.if-clauses-self-ge-MAX_FILINGS.true));
 }
 
-pub returns-then-index-gt0 : goal.returns-then-index-gt0
-returns-then-index-gt0 c = record {
+pub returns-then-deref-p-gt0 : goal.returns-then-deref-p-gt0
+returns-then-deref-p-gt0 c = record {
   good = c.requires;
   step = ban_refused c.args.self.now c.args.p (omega (arith, c.if-p-eq0.false)) c.if-p-self.false c.requires (omega (arith, c.clauses-clauses.ensures, c.if-clauses-self-ge-MAX_FILINGS.false))
-      c.index.result.now c.index.ensures c.if-index-gt0.true (c.clauses-clauses.result + 1) (ap (λ (n : ℕ). n + 1) c.clauses-clauses.ensures);
+      _ (ap (λ (xs : List ℕ). at xs c.args.p) c.deref.ensures) c.if-deref-p-gt0.true (c.clauses-clauses.result + 1) (ap (λ (n : ℕ). n + 1) c.clauses-clauses.ensures);
 }
 
 pub add_place-requires : goal.add_place-requires
@@ -47,8 +48,8 @@ returns c =
     let low : 1 ≤ p = omega (arith, c.if-p-eq0.false) in
     let room : vec_len st.tables.outcomes - st.opened < 256 = omega (arith, c.clauses-clauses.ensures, c.if-clauses-self-ge-MAX_FILINGS.false) in
     record {
-      good = ban_good st st' c.add_place.new.self p c.requires refl refl c.add_place.ensures.placed c.add_place.ensures.starts c.end_clause.ensures.ended c.end_clause.ensures.starts room low c.if-p-self.false c.index.result.now c.index.ensures c.if-index-gt0.false
-          (record { roomy = c.end_clause.ensures.ended.roomy; ranks = u.ranks; spares = u.spares; choices = u.choices; ready = u.ready; mark_room = u.mark_room }) refl;
-      step = ban_step st st' c.add_place.new.self p c.requires refl refl c.add_place.ensures.placed c.add_place.ensures.starts c.end_clause.ensures.ended c.end_clause.ensures.starts room low c.if-p-self.false c.index.result.now c.index.ensures c.if-index-gt0.false
+      good = ban_good st st' c.add_place.new.self p c.requires refl refl c.add_place.ensures.placed c.add_place.ensures.starts c.end_clause.ensures.ended c.end_clause.ensures.starts room low c.if-p-self.false _ (ap (λ (xs : List ℕ). at xs c.args.p) c.deref.ensures) c.if-deref-p-gt0.false
+          (record { roomy = c.end_clause.ensures.ended.roomy; mark_room = u.mark_room }) refl;
+      step = ban_step st st' c.add_place.new.self p c.requires refl refl c.add_place.ensures.placed c.add_place.ensures.starts c.end_clause.ensures.ended c.end_clause.ensures.starts room low c.if-p-self.false _ (ap (λ (xs : List ℕ). at xs c.args.p) c.deref.ensures) c.if-deref-p-gt0.false
           (c.clauses-clauses.result + 1) (ap (λ (n : ℕ). n + 1) c.clauses-clauses.ensures);
     }

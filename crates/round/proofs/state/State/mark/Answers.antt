@@ -16,7 +16,7 @@ returns c =
     record {
       good = record {
         stocked = record {
-          usable = record { roomy = s.usable.roomy; ranks = s.usable.ranks; spares = s.usable.spares; choices = s.usable.choices; ready = s.usable.ready; mark_room = omega (arith, c.push_reserved.ensures.capacity, s.usable.mark_room) };
+          usable = record { roomy = s.usable.roomy; mark_room = omega (arith, c.push_reserved.ensures.capacity, s.usable.mark_room) };
           filled = s.filled;
           few_conditions = s.few_conditions;
           few_clauses = s.few_clauses;
