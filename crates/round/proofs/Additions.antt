@@ -37,18 +37,15 @@ next_number st g f =
     ∙ ap (λ (n : ℕ). n + 1) (ap (λ (s : Sheet). length s.clauses) (now_is st g) ∙ clauses_count st)
 
 -- a condition's rank as it was read says whether the condition is in force
-module _ (st : State) (g : Good st) (p x : ℕ) (low : 1 ≤ p) (high : p ≤ st.tables.conditions) (e : x ≡ get_or (vec_items st.rank) p x) where
-  read : x ≡ at (vec_items st.rank) p
-  read = get_or_read_under (vec_items st.rank) p (vec_len st.rank) x 0 e (omega (arith, g.stocked.few_conditions, g.stocked.usable.ranks)) st.rank.ok.0
-
-  ranked_is : ranked (vec_items st.rank) p ≡ in_force (standing_sheet (opened_sheet st) (state_standing st)) p
-  ranked_is = in_force_ranked (state_sheet st) (vec_items st.rank) g.ranked p low ∙ sym (ap (λ (s : Sheet). in_force s p) (now_is st g))
+module _ (st : State) (g : Good st) (p x : ℕ) (low : 1 ≤ p) (high : p ≤ st.tables.conditions) (e : x ≡ at st.rank.value p) where
+  ranked_is : ranked (st.rank.value) p ≡ in_force (standing_sheet (opened_sheet st) (state_standing st)) p
+  ranked_is = in_force_ranked (state_sheet st) (st.rank.value) g.ranked p low ∙ sym (ap (λ (s : Sheet). in_force s p) (now_is st g))
 
   in_force_read : 0 < x → in_force (standing_sheet (opened_sheet st) (state_standing st)) p ≡ true
-  in_force_read h = sym ranked_is ∙ lt-ltb 0 (at (vec_items st.rank) p) (omega (arith, read))
+  in_force_read h = sym ranked_is ∙ lt-ltb 0 (at (st.rank.value) p) (omega (arith, e))
 
   no_rank_read : x ≤ 0 → in_force (standing_sheet (opened_sheet st) (state_standing st)) p ≡ false
-  no_rank_read h = sym ranked_is ∙ le-ltb 0 (at (vec_items st.rank) p) (omega (arith, read))
+  no_rank_read h = sym ranked_is ∙ le-ltb 0 (at (st.rank.value) p) (omega (arith, e))
 
 not_outside : (st : State) (p : ℕ) → Condition (opened_sheet st) p → Outside (opened_sheet st) p → ⊥
 not_outside st p h = ⊎_elim (λ x. omega arith) (λ x. omega arith)
@@ -93,10 +90,10 @@ abbrev pub with_tables : State → Tables → State
 with_tables st t = record st { tables = t }
 
 pub usable_with : (st : State) (t : Tables) → Usable st → Usable (with_tables st t)
-usable_with st t u = record { ranks = u.ranks; spares = u.spares; choices = u.choices; ready = u.ready; mark_room = u.mark_room }
+usable_with st t u = record { mark_room = u.mark_room }
 
 -- a ban of a condition whose rank was read
-module _ (st : State) (p n : ℕ) (g : Good st) (m : MayFile st p n) (x : ℕ) (e : x ≡ get_or (vec_items st.rank) p x) where
+module _ (st : State) (p n : ℕ) (g : Good st) (m : MayFile st p n) (x : ℕ) (e : x ≡ at st.rank.value p) where
   -- where the condition is in force the ban names itself
   pub ban_refused : 0 < x → Step (state_position st) (ban p) (refusal (Contradiction n)) (state_position st)
   ban_refused r = record {
@@ -131,7 +128,7 @@ module _ (st : State) (p n : ℕ) (g : Good st) (m : MayFile st p n) (x : ℕ) (
     ban_good = record {
       stocked = filed_stocked st (with_tables st t') (of_ban p) g m.condition ban_grown (usable_with st t' g.stocked.usable) (writing_filled (held_rows t') t'.rows ended.body);
       kept = filed_kept st (with_tables st t') (of_ban p) g m.condition ban_grown;
-      ranked = subst (λ (s : Sheet). Ranks s (vec_items st.rank)) (sym ban_sheet) (ranks_banned (state_sheet st) (clause_of (of_ban p)) (vec_items st.rank) refl g.ranked);
+      ranked = subst (λ (s : Sheet). Ranks s (st.rank.value)) (sym ban_sheet) (ranks_banned (state_sheet st) (clause_of (of_ban p)) (st.rank.value) refl g.ranked);
       unbroken = ap satisfiable (next_is st (with_tables st t') (of_ban p) g m.condition ban_grown)
           ∙ sound_ban (opened_sheet st) (state_standing st).filings p m.condition (good_sound st g) not_in_force;
     }
@@ -182,9 +179,9 @@ module _ (st : State) (p n : ℕ) (g : Good st) (m : MayFile st p n) (t : Tables
 
     discharged : d ≡ newly_discharged (standing_sheet (opened_sheet st) (state_standing st)) (next_sheet (opened_sheet st) (state_standing st) (of_fact p))
     discharged = anew.discharged
-        ∙ ap (λ (s : Sheet). places (λ q. in_force s q && not (ranked (vec_items st.rank) q)) s.clauses) sheet_anew
-        ∙ newly_counted (standing_sheet (opened_sheet st) (state_standing st)) (next_sheet (opened_sheet st) (state_standing st) (of_fact p)) (vec_items st.rank)
-        (next_lawful st (with_tables st t) (of_fact p) g m.condition fact_grown) (subst (λ (s : Sheet). Ranks s (vec_items st.rank)) (sym (now_is st g)) g.ranked)
+        ∙ ap (λ (s : Sheet). places (λ q. in_force s q && not (ranked (st.rank.value) q)) s.clauses) sheet_anew
+        ∙ newly_counted (standing_sheet (opened_sheet st) (state_standing st)) (next_sheet (opened_sheet st) (state_standing st) (of_fact p)) (st.rank.value)
+        (next_lawful st (with_tables st t) (of_fact p) g m.condition fact_grown) (subst (λ (s : Sheet). Ranks s (st.rank.value)) (sym (now_is st g)) g.ranked)
 
     pub fact_step : Step (state_position st) (fact p) (ok (n ∷ (d ∷ [])) []) (state_position st')
     fact_step = record {
@@ -253,7 +250,7 @@ module _ (st : State) (p n : ℕ) (g : Good st) (m : MayFile st p n) (t : Tables
     fact_taken_back = record {
       stocked = stocked_at (with_tables st' t') (usable_with st' t' broken.unmoved.stocked.usable) cut.filled (omega (arith, ap (λ (s : Sheet). s.top) back_is, g.stocked.few_conditions)) back_kept (subst Lawful (sym back_is) (stocked_lawful st g.stocked));
       kept = back_kept;
-      ranked = subst₂ Ranks (sym back_is) (λ i. vec_items (sym broken.ranks i)) g.ranked;
+      ranked = subst₂ Ranks (sym back_is) (λ i. (sym broken.ranks i).value) g.ranked;
       unbroken = ap satisfiable back_is ∙ g.unbroken;
     }
 

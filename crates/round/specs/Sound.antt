@@ -50,7 +50,7 @@ state_lawful st g =
     let n = length-map-range_with_len (clause_in (held_rows st.tables)) 0 (length (vec_items st.tables.outcomes)) in
     record {
       few_conditions = g.few_conditions;
-      few_clauses = omega (arith, n, st.tables.outcomes.ok.0, g.few_clauses);
+      few_clauses = omega (arith, n, st.tables.outcomes.ok.0, st.tables.few.0);
       lawful = (lawful_tested (state_sheet st)).0 g.lawfully;
     }
 

@@ -1,15 +1,15 @@
 // The calls on a round.
 ghost use Rattle.std.specs.Prelude.{◌≡◌, length, take, IfOk, IfErr};
 ghost use Rattle.horn.specs.Sheets.{empty_sheet, Condition};
-ghost use Rattle.horn.specs.Levels.{in_force, explanation};
+ghost use Rattle.horn.specs.Levels.{in_force};
 ghost use Rattle.round.specs.Answers.{Opens, Outside, Asks, Rolls, words_for, opened};
-ghost use Rattle.round.specs.Calls.{ask as ask_call, roll as roll_call, explain as explain_call, nothing};
+ghost use Rattle.round.specs.Calls.{ask as ask_call, roll as roll_call, nothing};
 ghost use Rattle.round.specs.Promise.{OpeningPromise};
-ghost use Rattle.round.specs.Replies.{opening_answer, ask_answer, roll_answer, explain_answer, sheet_left, buffer_left, steps_left};
+ghost use Rattle.round.specs.Replies.{opening_answer, ask_answer, roll_answer, sheet_left, buffer_left};
 ghost use Rattle.round.specs.Runs.{Step};
 ghost use Rattle.round.specs.Sound.{position, round_sheet};
 
-use crate::refusals::{Explained, Opened, Refusal};
+use crate::refusals::{Opened, Refusal};
 use crate::rolling::{words_for, write_roll};
 use crate::sound::Round;
 use crate::state::State;
@@ -35,7 +35,21 @@ impl Round {
         ensures standing { (position self.new).standing ≡ nothing }
         ensures promise { OpeningPromise (S.Source.sheet source.now) (opening_answer result) }
     {
-        self.state.open(source)
+        self.state.empty();
+        self.state.tables.fill_from(source)?;
+        let clauses = self.state.tables.clauses();
+        self.state.opened = clauses;
+        match self.state.settle() {
+            Ok(discharged) => Ok(Opened {
+                clauses,
+                conditions: self.state.tables.conditions,
+                discharged,
+            }),
+            Err(refusal) => {
+                self.state.empty();
+                Err(refusal)
+            }
+        }
     }
 
     // Where condition p stands in the tables.
@@ -69,13 +83,5 @@ impl Round {
             return Err(Refusal::ShortBuffer);
         }
         Ok(write_roll(&self.state.rank, top, words))
-    }
-
-    // Writes the steps of an explanation of condition p: which clauses put it in force, by the shortest way.
-    pub fn explain(&mut self, p: u16, steps: &mut [u16]) -> Result<Explained, Refusal>
-        ensures step { Step (position self.old) (explain_call p (length steps.old)) (explain_answer result steps.new) (position self.new) }
-        ensures buffer { steps.new ≡ steps_left result (explanation (round_sheet self.old) p) steps.old }
-    {
-        self.state.explain(p, steps)
     }
 }

@@ -34,9 +34,9 @@ impl Round {
         let number = self.next_number(p)?;
         self.state.tables.end_clause(p);
         match self.state.settle() {
-            Err(ban) => {
+            Err(refusal) => {
                 self.state.tables.truncate(number - 1);
-                Err(Refusal::Contradiction(ban))
+                Err(refusal)
             }
             Ok(discharged) => Ok(Filed { number, discharged }),
         }

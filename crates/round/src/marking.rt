@@ -9,7 +9,7 @@ use crate::refusals::Refusal;
 use crate::sound::Round;
 
 // How many marks may stand.
-const MAX_MARKS: usize = 32;
+pub(crate) const MAX_MARKS: usize = 32;
 
 impl Round {
     // Sets a mark; the answer is its name, the number of marks that stand.

@@ -4,6 +4,8 @@ ghost use Rattle.horn.specs.Levels.{how_many};
 ghost use Rattle.round.specs.Answers.{words_for, roll_words, bits, up_to};
 ghost use Rattle.round.specs.Ranks.{ranked};
 
+use crate::sizes::CONDITIONS;
+
 // How many words hold a bit for each condition.
 pub(crate) fn words_for(top: u16) -> usize
     ensures { result ≡ words_for top }
@@ -12,8 +14,8 @@ pub(crate) fn words_for(top: u16) -> usize
 }
 
 // Whether condition p has a rank and is at most `top`.
-fn holds(rank: &[u16], top: u16, p: usize) -> bool
-    requires { top < length rank.now }
+fn holds(rank: &[u16; CONDITIONS], top: u16, p: usize) -> bool
+    requires { top ≤ 1000 }
     ensures { result ≡ up_to top (ranked rank.now) p }
 {
     if p > top as usize {
@@ -23,8 +25,8 @@ fn holds(rank: &[u16], top: u16, p: usize) -> bool
 }
 
 // The 32 conditions from `first` on, each as a bit, the first one the lowest.
-fn word(rank: &[u16], top: u16, first: usize) -> u32
-    requires table { top < length rank.now }
+fn word(rank: &[u16; CONDITIONS], top: u16, first: usize) -> u32
+    requires few { top ≤ 1000 }
     requires low { first ≤ 1024 }
     ensures { result ≡ bits (up_to top (ranked rank.now)) first 32 }
 {
@@ -37,8 +39,7 @@ fn word(rank: &[u16], top: u16, first: usize) -> u32
 }
 
 // Writes the conditions up to `top` that have a rank, and counts them.
-pub(crate) fn write_roll(rank: &[u16], top: u16, words: &mut [u32]) -> u16
-    requires table { length rank.now ≡ 1001 }
+pub(crate) fn write_roll(rank: &[u16; CONDITIONS], top: u16, words: &mut [u32]) -> u16
     requires low { top ≤ 1000 }
     requires space { words_for top ≤ length words.old }
     ensures count { result ≡ how_many (ranked rank.now) top }

@@ -2,6 +2,7 @@
 ghost use Rattle.std.specs.Prelude.{◌≡◌, ◌∷◌, ◌++◌, ◌+◌, ◌<◌, ◌≤◌, [], IfOk, OnOk, OnErr, IfErr, IfSome, Some, length, option_copied, vec_items, vec_len, vec_capacity};
 ghost use Rattle.horn.specs.Sheets.{empty_sheet, IsTooLarge};
 ghost use Rattle.horn.specs.Sources.{outcome_at, size_at, condition_at};
+ghost use Rattle.round.specs.Lent.{SheetRows};
 ghost use Rattle.round.specs.Rows.{rows, Filled};
 ghost use Rattle.round.specs.Writing.{Writing, writing_prop, unfinished};
 ghost use Rattle.round.specs.declared.sizes.TheConstants.{CLAUSES, PLACES};
@@ -29,7 +30,7 @@ pub(crate) struct Tables {
 
 impl Tables {
     ghost use Rattle.round.specs.Held.{held_rows, held_sheet, Placed, Ended, Cut, body_at, Copied, Emptied, Holds};
-    ghost use Rattle.round.specs.Rows.{rows_of};
+    ghost use Rattle.round.specs.Lending.{lent_sheet};
 
     // Empty tables with memory for a whole sheet and 256 clauses more.
     pub(crate) fn new(heap: Global) -> Result<Tables, AllocError>
@@ -98,9 +99,11 @@ impl Tables {
 
     // The clauses, lent.
     pub(crate) fn rows(&self) -> ClauseRows<'_>
-        ensures { rows_of result ≡ held_rows self.now }
+        requires { SheetRows self.now.conditions (held_rows self.now) }
+        ensures { lent_sheet result ≡ held_sheet self.now }
     {
         ClauseRows {
+            conditions: self.conditions,
             outcomes: &self.outcomes,
             starts: &self.starts,
             places: &self.places,
@@ -181,13 +184,13 @@ impl Tables {
         Ok(())
     }
 
-    // Fills the tables from any source; refused, and empty, where its clauses exceed a sheet's limits.
+    // Fills empty tables from any source; refused, and left empty, where its clauses exceed a sheet's limits.
     pub(crate) fn fill_from<S: Source>(&mut self, source: &S) -> Result<(), Refusal>
+        requires { Emptied self.old }
         ensures kept { OnOk result (Holds (S.Source.sheet source.now) self.new) }
         ensures refused { IfErr result (λ e. (e ≡ Refusal.TooLarge) × IsTooLarge (S.Source.sheet source.now)) }
         ensures emptied { OnErr result (Emptied self.new) }
     {
-        self.clear();
         let copied = self.copy_clauses(source);
         match copied {
             Ok(()) => self.conditions = source.conditions(),

@@ -1,5 +1,4 @@
-use Rattle.std.proofs.Common.{◌≡◌, Bool, ltb, Ok, vec_items, vec_len, sym, refl, ap, ◌∙◌, subst, arith}
-use Rattle.std.proofs.lemmas.List.{get_or_read_under}
+use Rattle.std.proofs.Common.{◌≡◌, ℕ, Bool, ltb, List, Ok, sym, refl, ap, ◌∙◌, subst, arith}
 use Rattle.horn.specs.Sheets.{Sheet}
 use Rattle.round.specs.Answers.{Asks}
 use Rattle.round.specs.Replies.{ask_answer}
@@ -12,17 +11,16 @@ use Rattle.round.proofs.sound.Round.ask.Goals as goal
 
 pub returns : goal.returns
 returns c =
-    let st = c.args.self.now.state in
-    let g = c.args.self.now.ok in
+    let r = c.args.self.now in
+    let p : ℕ = c.args.p in
     let w = c.in_ok-p.ensures.within in
-    let ps = vec_items st.rank in
-    let is : c.index.result.now ≡ at ps c.args.p = get_or_read_under ps c.in_ok-p.p (vec_len st.rank) c.index.result.now 0 c.index.ensures (omega (arith, w.0, w.1.1, g.stocked.few_conditions, g.stocked.usable.ranks)) st.rank.ok.0 ∙ ap (at ps) w.0 in
-    let b : Bool = ltb 0 c.index.result.now in
-    let a = asks_ok (state_sheet st) c.args.p b w.1.0 w.1.1 (ap (ltb 0) is ∙ in_force_ranked (state_sheet st) ps g.ranked c.args.p w.1.0) in
+    let is : at c.deref.result.now c.in_ok-p.p ≡ at r.state.rank.value p = ap (λ (xs : List ℕ). at xs c.in_ok-p.p) c.deref.ensures ∙ ap (at r.state.rank.value) w.0 in
+    let b : Bool = ltb 0 (at c.deref.result.now c.in_ok-p.p) in
+    let a = asks_ok (state_sheet r.state) p b w.1.0 w.1.1 (ap (ltb 0) is ∙ in_force_ranked (state_sheet r.state) r.state.rank.value r.ok.ranked p w.1.0) in
     record {
       answer = a;
       step = record {
-        answers = subst (λ (s : Sheet). Asks s c.args.p (ask_answer (Ok b))) (sym (round_is c.args.self.now)) a;
+        answers = subst (λ (s : Sheet). Asks s p (ask_answer (Ok b))) (sym (round_is r)) a;
         sheet = refl;
         stands = refl;
       };

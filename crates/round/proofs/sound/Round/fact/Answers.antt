@@ -17,12 +17,13 @@ settle-requires c =
 pub invariant_of-self : goal.invariant_of-self
 invariant_of-self c =
     let r = c.args.self.now in
-    record { ok = fact_taken_back r.state c.args.p c.in_ok-number.number r.ok c.in_ok-number.ensures.may c.end_clause.new.self c.end_clause.ensures c.settle.new.self c.in-Err.ban c.in-Err.ensures c.truncate.new.self c.truncate.ensures }
+    record { ok = fact_taken_back r.state c.args.p c.in_ok-number.number r.ok c.in_ok-number.ensures.may c.end_clause.new.self c.end_clause.ensures c.settle.new.self c.in-Err.ensures.0 c.in-Err.ensures.2 c.truncate.new.self c.truncate.ensures }
 
 pub returns-in-Err : goal.returns-in-Err
 returns-in-Err c =
     let r = c.args.self.now in
-    fact_refused r.state c.args.p c.in_ok-number.number r.ok c.in_ok-number.ensures.may c.end_clause.new.self c.end_clause.ensures c.settle.new.self c.in-Err.ban c.in-Err.ensures c.truncate.new.self c.truncate.ensures
+    rw c.in-Err.ensures.1
+    (fact_refused r.state c.args.p c.in_ok-number.number r.ok c.in_ok-number.ensures.may c.end_clause.new.self c.end_clause.ensures c.settle.new.self c.in-Err.ensures.0 c.in-Err.ensures.2 c.truncate.new.self c.truncate.ensures)
 
 pub invariant_of-self-in-Ok-1 : goal.invariant_of-self-in-Ok-1
 invariant_of-self-in-Ok-1 c =

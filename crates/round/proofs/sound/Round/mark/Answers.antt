@@ -14,11 +14,9 @@ invariant_of-self c =
     record {
       ok = record {
         stocked = record {
-          usable = record { ranks = s.usable.ranks; spares = s.usable.spares; choices = s.usable.choices; ready = s.usable.ready; mark_room = omega (arith, c.push_reserved.ensures.capacity, s.usable.mark_room) };
+          usable = record { mark_room = omega (arith, c.push_reserved.ensures.capacity, s.usable.mark_room) };
           filled = s.filled;
           few_conditions = s.few_conditions;
-          few_clauses = s.few_clauses;
-          few_places = s.few_places;
           lawfully = s.lawfully;
         };
         kept = kept_marked st _ refl refl items (omega (arith, c.if-len-ge-MAX_MARKS.false, c.len.ensures)) g.kept;

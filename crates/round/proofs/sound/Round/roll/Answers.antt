@@ -12,14 +12,14 @@ pub write_roll-requires : goal.write_roll-requires
 write_roll-requires c =
     let st = c.args.self.now.state in
     let g = c.args.self.now.ok in
-    record { table = c.deref.ensures.len ∙ g.stocked.usable.ranks; low = g.stocked.few_conditions; space = omega arith }
+    record { low = g.stocked.few_conditions; space = omega arith }
 
 pub returns : goal.returns
 returns c =
     let st = c.args.self.now.state in
     let g = c.args.self.now.ok in
     let s : Sheet = state_sheet st in
-    let r : Ranks s c.deref.result.now = subst (Ranks s) (sym c.deref.ensures.value) g.ranked in
+    let r : Ranks s c.deref.result.now = subst (Ranks s) (sym c.deref.ensures) g.ranked in
     let rest : List ℕ = drop (words_for s.top) c.args.words.now in
     let n = c.write_roll.ensures.count ∙ count_in_force s c.deref.result.now r in
     let b : c.write_roll.new.words ≡ roll_words (in_force s) s.top ++ rest = c.write_roll.ensures.written ∙ ap (λ (ws : List ℕ). ws ++ rest) (roll_in_force s c.deref.result.now r) in
