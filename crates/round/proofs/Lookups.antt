@@ -47,9 +47,6 @@ nth_between ps a b j l h =
     let t : j < b - a = omega arith in
     slice_get-get_or (between a b ps) j 0 q ∙ ap Some (get_or-take (b - a) (drop a ps) j 0 t ∙ get_or-drop a ps j 0)
 
-pub nth_between_past : (ps : List ℕ) (a b j : ℕ) → a ≤ b → b ≤ length ps → b ≤ a + j → slice_get (between a b ps) j ≡ None
-nth_between_past ps a b j w l h = slice_get_past (between a b ps) j (omega (arith, size_between ps a b w l))
-
 -- where the body of clause i stands
 pub record Found (top : ℕ) (t : Rows) (i from end : ℕ) : Type 0 where
   pub rising : from ≤ end
