@@ -2,8 +2,9 @@
 use Rattle.std.proofs.Common.{◌≡◌, ℕ, zero, suc, ◌+◌, ◌<◌, ◌≤◌, Bool, true, false, cond, ◌&&◌, eqb, ltb, leb, List, [], ◌∷◌, ◌++◌, map, length, take, drop, set, sym, refl, ap, ◌∙◌, ap₂, inl, inr, ⊎_elim, add-one, arith, length-append, length-drop, drop-cons}
 use lib.ListN.{length-map}
 use lib.Seq.{set_at}
-use Rattle.std.specs.List.{AllByRecursion}
-use Rattle.std.proofs.lemmas.List.{append_assoc, append-nil, length_push, map_push, take_at}
+use Rattle.std.specs.List.{AllByRecursion, count_by}
+use Rattle.std.proofs.lemmas.List.Sums.{sum_by_push}
+use Rattle.std.proofs.lemmas.List.{append_assoc, append-nil, length_push, map_push, take_at, take_more, get_or-drop}
 use Rattle.std.proofs.lemmas.Bool.{cases_Bool, cases_lt, both_ways, and_left, eq-eqb, ne_eqb, le-leb, cond-true, cond-false}
 use Rattle.std.proofs.lemmas.Bool.Decides.{nat_tests}
 use Rattle.horn.specs.Sheets.{Sheet}
@@ -170,3 +171,22 @@ module _ (s : Sheet) (q n : ℕ) (low : 0 < q) (high : q ≤ s.top) (h : in_forc
   explains_ok l r k before after er ek ea =
       let written : take k after ≡ explanation s q = ap (take k) ea ∙ take_at (explanation s q) (drop k before) k (sym ek) in
       inr (⊎_elim (λ e. omega arith) (λ e. omega arith), inr (λ e. both_ways (in_force s q) e h, inr (λ e. omega arith, λ i. ok (er i ∷ (ek i ∷ [])) (written i))))
+
+-- how many marks stand from number 1 on
+pub marks_counted : (marks : List ℕ) (n : ℕ) → n < length marks → count_by (λ x. ltb 0 x) (take n (drop 1 marks)) ≡ how_many (ranked marks) n
+marks_counted marks zero h = refl
+marks_counted marks (suc n) h =
+    let rest : List ℕ = drop 1 marks in
+    let m : suc n ≡ n + 1 = sym (add-one n) in
+    let here : at rest n ≡ at marks (suc n) = get_or-drop 1 marks n 0 ∙ ap (at marks) (omega arith) in
+    ap (λ (k : ℕ). count_by (λ x. ltb 0 x) (take k rest)) m
+    ∙ ap (count_by (λ x. ltb 0 x)) (take_more rest n 0 (omega (arith, length-drop 1 marks)))
+    ∙ sum_by_push (λ x. cond (ltb 0 x) 1 0) (take n rest) (at rest n)
+    ∙ one (ltb 0 (at rest n)) (ltb 0 (at marks (suc n))) (ap (ltb 0) here) (marks_counted marks n (omega arith))
+  where
+    one : (a b : Bool) → a ≡ b → count_by (λ x. ltb 0 x) (take n (drop 1 marks)) ≡ how_many (ranked marks) n
+        → count_by (λ x. ltb 0 x) (take n (drop 1 marks)) + cond a 1 0 ≡ cond b (suc (how_many (ranked marks) n)) (how_many (ranked marks) n)
+    one true true e h = omega arith
+    one false false e h = omega arith
+    one true false e h = absurd (both_ways true e refl)
+    one false true e h = absurd (both_ways false refl e)

@@ -167,26 +167,6 @@ module _ (st st' : State) (t : st'.tables ≡ st.tables) (o : st'.opened ≡ st.
         });
       }
 
--- Where the clauses and marks stay, so does what the calls see, and what holds of it.
-module _ (st st' : State) (u : Unmoved st st') where
-  pub unmoved_position : state_position st' ≡ state_position st
-  unmoved_position = λ i. record {
-    sheet = record { top = (u.tables i).conditions; clauses = take (u.opened i) (held_sheet (u.tables i)).clauses };
-    standing = record { filings = map filing_of (drop (u.opened i) (held_sheet (u.tables i)).clauses); marks = vec_items (u.marks i) };
-  }
-
-  pub unmoved_kept : Kept st → Kept st'
-  unmoved_kept k = subst Kept (mixed_is st st' u.tables u.opened u.marks) (record {
-    few_opened = k.few_opened;
-    opened_clauses = k.opened_clauses;
-    few_filings = k.few_filings;
-    filings = k.filings;
-    starts = k.starts;
-    few_marks = k.few_marks;
-    marks_rise = k.marks_rise;
-    marks_stand = k.marks_stand;
-  })
-
 -- where no condition had a rank, all discharged places are newly discharged
 newly_all : (s : Sheet) (old : List ℕ) → ((p : ℕ) → at old p ≡ 0) → places (λ p. in_force s p && not (ranked old p)) s.clauses ≡ discharged s
 newly_all s old none = ap (λ (f : ℕ → Bool). places f s.clauses) (fun_ext (λ p. and_true (in_force s p) (not (ranked old p)) (not_from_false (ranked old p) (le-ltb 0 (at old p) (omega (arith, none p))))))

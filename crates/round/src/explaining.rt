@@ -31,13 +31,8 @@ fn count_marked(marks: &[u16; CONDITIONS], top: u16) -> u16
     requires { top ≤ 1000 }
     ensures { result ≡ how_many (ranked marks.now) top }
 {
-    let mut n = 0;
-    for k in 0..top as usize {
-        if marks[k + 1] > 0 {
-            n += 1;
-        }
-    }
-    n
+    let marked = marks[1..top as usize + 1].iter().filter(|mark| **mark > 0);
+    marked.count() as u16
 }
 
 // Writes the clauses of the conditions with marks up to `last`, by mark, then by number. The time is that of a pass over the
