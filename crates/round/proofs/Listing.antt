@@ -1,5 +1,5 @@
 -- The steps of an explanation, listed from the marks of what a condition needs.
-use Rattle.std.proofs.Common.{◌≡◌, ℕ, zero, suc, ◌+◌, ◌<◌, ◌≤◌, Bool, true, false, cond, ◌&&◌, eqb, ltb, leb, List, [], ◌∷◌, ◌++◌, map, length, take, drop, set, sym, refl, ap, ◌∙◌, ap₂, inl, inr, ⊎_elim, add-one, arith, length-append, length-drop, drop-cons}
+use Rattle.std.proofs.Common.{◌≡◌, ℕ, zero, suc, ◌+◌, ◌-◌, ◌<◌, ◌≤◌, Bool, true, false, cond, ◌&&◌, eqb, ltb, leb, List, [], ◌∷◌, ◌++◌, map, length, take, drop, set, sym, refl, ap, ◌∙◌, ap₂, inl, inr, ⊎_elim, add-one, arith, length-append, length-drop, drop-cons}
 use lib.ListN.{length-map}
 use lib.Seq.{set_at}
 use Rattle.std.specs.List.{AllByRecursion, count_by}
@@ -22,23 +22,25 @@ use Rattle.round.proofs.Sets.{split}
 abbrev pub so_far : List ℕ → ℕ → ℕ → ℕ → List ℕ
 so_far marks top d k = by_mark marks top d ++ listed (λ p. eqb (at marks p) (suc d)) k
 
-module _ (marks : List ℕ) (top d k : ℕ) where
-  pub so_far_hit : at marks (k + 1) ≡ d + 1 → so_far marks top d (k + 1) ≡ so_far marks top d k ++ (k + 1) ∷ []
+module _ (marks : List ℕ) (top d p : ℕ) (from_one : 1 ≤ p) where
+  pub so_far_hit : at marks p ≡ d + 1 → so_far marks top d p ≡ so_far marks top d (p - 1) ++ p ∷ []
   so_far_hit e =
-      let m : k + 1 ≡ suc k = add-one k in
+      let k : ℕ = p - 1 in
+      let m : p ≡ suc k = omega arith in
       let f : eqb (at marks (suc k)) (suc d) ≡ true = eq-eqb (at marks (suc k)) (suc d) (sym (ap (at marks) m) ∙ e ∙ add-one d) in
       ap (so_far marks top d) m
-      ∙ ap (λ (b : Bool). by_mark marks top d ++ (listed (λ p. eqb (at marks p) (suc d)) k ++ cond b (suc k ∷ []) [])) f
-      ∙ sym (append_assoc (by_mark marks top d) (listed (λ p. eqb (at marks p) (suc d)) k) (suc k ∷ []))
+      ∙ ap (λ (b : Bool). by_mark marks top d ++ (listed (λ x. eqb (at marks x) (suc d)) k ++ cond b (suc k ∷ []) [])) f
+      ∙ sym (append_assoc (by_mark marks top d) (listed (λ x. eqb (at marks x) (suc d)) k) (suc k ∷ []))
       ∙ ap (λ (x : ℕ). so_far marks top d k ++ x ∷ []) (sym m)
 
-  pub so_far_miss : (at marks (k + 1) ≡ d + 1 → ⊥) → so_far marks top d (k + 1) ≡ so_far marks top d k
+  pub so_far_miss : (at marks p ≡ d + 1 → ⊥) → so_far marks top d p ≡ so_far marks top d (p - 1)
   so_far_miss n =
-      let m : k + 1 ≡ suc k = add-one k in
+      let k : ℕ = p - 1 in
+      let m : p ≡ suc k = omega arith in
       let f : eqb (at marks (suc k)) (suc d) ≡ false = ne_eqb (at marks (suc k)) (suc d) (λ e. n (ap (at marks) m ∙ e ∙ sym (add-one d))) in
       ap (so_far marks top d) m
-      ∙ ap (λ (b : Bool). by_mark marks top d ++ (listed (λ p. eqb (at marks p) (suc d)) k ++ cond b (suc k ∷ []) [])) f
-      ∙ ap (λ (l : List ℕ). by_mark marks top d ++ l) (append-nil (listed (λ p. eqb (at marks p) (suc d)) k))
+      ∙ ap (λ (b : Bool). by_mark marks top d ++ (listed (λ x. eqb (at marks x) (suc d)) k ++ cond b (suc k ∷ []) [])) f
+      ∙ ap (λ (l : List ℕ). by_mark marks top d ++ l) (append-nil (listed (λ x. eqb (at marks x) (suc d)) k))
 
 -- what never falls from one number to the next
 rising : (f : ℕ → ℕ) → ((n : ℕ) → f n ≤ f (suc n)) → (k n : ℕ) → k ≤ n → f k ≤ f n
@@ -57,9 +59,9 @@ so_far_room marks top d k last l h =
     rising (λ n. length (by_mark marks top n)) (λ n. omega (arith, length-append (by_mark marks top n) (listed (λ p. eqb (at marks p) (suc n)) top))) (suc d) last (omega arith) in
     omega (arith, a, b, length-append (by_mark marks top d) (listed f k), length-append (by_mark marks top d) (listed f top))
 
-pub hit_room : (marks : List ℕ) (top d k last : ℕ) → k < top → d < last → at marks (k + 1) ≡ d + 1 → length (so_far marks top d k) < length (by_mark marks top last)
-hit_room marks top d k last l h e =
-    omega (arith, so_far_room marks top d (k + 1) last (omega arith) h, ap length (so_far_hit marks top d k e), length_push (so_far marks top d k) (k + 1))
+pub hit_room : (marks : List ℕ) (top d p last : ℕ) → 1 ≤ p → p ≤ top → d < last → at marks p ≡ d + 1 → length (so_far marks top d (p - 1)) < length (by_mark marks top last)
+hit_room marks top d p last one l h e =
+    omega (arith, so_far_room marks top d p last l h, ap length (so_far_hit marks top d p one e), length_push (so_far marks top d (p - 1)) p)
 
 -- a buffer with the clauses of the conditions `done`, and then what stood there before
 abbrev pub Written : List ℕ → List ℕ → List ℕ → List ℕ → Type 0

@@ -50,9 +50,9 @@ fn write_steps(
 {
     let mut n = 0;
     for d in 0..last {
-        for k in 0..top as usize {
-            if marks[k + 1] == d + 1 {
-                steps[n] = chosen[k + 1];
+        for p in 1..top as usize + 1 {
+            if marks[p] == d + 1 {
+                steps[n] = chosen[p];
                 n += 1;
             }
         }
@@ -94,9 +94,9 @@ impl Ranked<'_> {
         marks.fill(0);
         marks[q as usize] = self.rank[q as usize];
         for d in (0..self.rank[q as usize]).rev() {
-            for k in 0..self.clauses.conditions as usize {
-                if marks[k + 1] == d + 1 {
-                    self.mark_body(chosen[k + 1] as usize - 1, marks);
+            for p in 1..self.clauses.conditions as usize + 1 {
+                if marks[p] == d + 1 {
+                    self.mark_body(chosen[p] as usize - 1, marks);
                 }
             }
         }

@@ -43,9 +43,9 @@ pub(crate) fn write_roll(rank: &[u16; CONDITIONS], top: u16, words: &mut [u32]) 
     ensures written { words.new ≡ roll_words (ranked rank.now) top ++ drop (words_for top) words.old }
 {
     let mut n = 0u32;
-    for w in 0..words_for(top) {
+    for (w, slot) in words[..words_for(top)].iter_mut().enumerate() {
         let x = word(rank, top, 32 * w + 1);
-        words[w] = x;
+        *slot = x;
         n += x.count_ones();
     }
     n as u16

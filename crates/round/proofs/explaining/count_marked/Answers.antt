@@ -1,4 +1,4 @@
-use Rattle.std.proofs.Common.{◌≡◌, ◌+◌, ◌-◌, ltb, length, drop, take, rules, ap, ◌∙◌, arith}
+use Rattle.std.proofs.Common.{◌≡◌, ◌+◌, ◌-◌, ltb, drop, take, rules, ap, ◌∙◌, arith}
 use Rattle.std.specs.List.{count_by}
 use Rattle.round.proofs.Listing.{marks_counted}
 use Rattle.round.proofs.explaining.count_marked.Goals as goal
