@@ -1,5 +1,5 @@
 -- What the tables of a round hold after an opening.
-use Rattle.std.proofs.Common.{◌≡◌, ℕ, zero, suc, ◌+◌, ◌-◌, ◌<◌, ◌≤◌, Bool, List, [], ◌∷◌, map, length, get_or, take, drop, Some, not, ◌&&◌, vec_items, vec_len, sym, refl, ap, ◌∙◌, subst, Err, inl, inr, ⊎_elim, add-one, arith}
+use Rattle.std.proofs.Common.{◌≡◌, ℕ, zero, suc, ◌+◌, ◌-◌, ◌<◌, ◌≤◌, Bool, List, [], ◌∷◌, map, length, get_or, drop, Some, not, ◌&&◌, vec_items, vec_len, sym, refl, ap, ◌∙◌, subst, Err, inl, inr, ⊎_elim, add-one, arith}
 use native.Mathlib.Decide.{dec_le}
 use Rattle.std.proofs.lemmas.List.{take_all, drop_all}
 use Rattle.horn.specs.Sheets.{Sheet, Clause, Condition, Lawful, LawfulClause, empty_sheet, all_of, literals}
@@ -17,7 +17,7 @@ use Rattle.round.specs.Lent.{SheetRows}
 use Rattle.round.specs.Held.{held_rows, held_sheet, Emptied, Holds}
 use Rattle.round.specs.Answers.{Opens, ok, refusal}
 use Rattle.round.specs.Calls.{nothing}
-use Rattle.round.specs.Good.{Usable, Bare, Stocked, Kept, Good, Unmoved, RankedAnew, Settled, state_sheet, is_filing, filing_of, opened_sheet, state_standing, state_position}
+use Rattle.round.specs.Good.{Usable, Bare, Stocked, Kept, Good, Unmoved, RankedAnew, Settled, state_sheet, is_filing, filing_of, opened_sheet, state_standing}
 use Rattle.round.specs.declared.refusals.Refusal.{Refusal}
 use Rattle.round.specs.declared.refusals.Refusal.TheVariants.{Contradiction}
 use Rattle.round.specs.declared.tables.Tables.{Tables}

@@ -1,6 +1,6 @@
 -- The number of zeros of a table.
 use Rattle.std.proofs.Common.{◌≡◌, ℕ, zero, suc, refl, replicate, ◌+◌, ◌<◌, ◌≤◌, false, cond, eqb, List, length, set, arith}
-use Rattle.std.proofs.lemmas.List.Sums.{get_or-le-sum_by, sum_by-set, count_by-le-length}
+use Rattle.std.proofs.lemmas.List.Sums.{sum_by-set, count_by-le-length}
 use Rattle.std.proofs.lemmas.List.{get_or_past}
 use Rattle.std.proofs.lemmas.Bool.{ne_eqb, cases_lt}
 use Rattle.round.proofs.Sets.{split}
@@ -12,10 +12,6 @@ mark x = cond (eqb x 0) 1 0
 
 mark_pos : (x : ℕ) → 0 < x → mark x ≡ 0
 mark_pos x h = let e : eqb x 0 ≡ false = ne_eqb x 0 (λ q. omega arith) in rw e
-
--- a zero among the entries counts
-pub zeros_pos : (xs : List ℕ) (i : ℕ) → i < length xs → at xs i ≡ 0 → 1 ≤ zeros xs
-zeros_pos xs i h e = let b : mark (at xs i) ≤ zeros xs = get_or-le-sum_by mark xs i 0 h in rw e at b
 
 -- a zero that is written over
 pub zeros_set : (xs : List ℕ) (i y : ℕ) → i < length xs → at xs i ≡ 0 → 0 < y → zeros (set xs i y) + 1 ≡ zeros xs

@@ -33,13 +33,8 @@ fn count_marked(marks: &[u16; CONDITIONS], top: u16) -> u16
     requires { top ≤ 1000 }
     ensures { result ≡ how_many (ranked marks.now) top }
 {
-    let mut n = 0;
-    for k in 0..top as usize {
-        if marks[k + 1] > 0 {
-            n += 1;
-        }
-    }
-    n
+    let marked = marks[1..top as usize + 1].iter().filter(|mark| **mark > 0);
+    marked.count() as u16
 }
 
 // Writes the clauses of the conditions with marks up to `last`, by mark, then by number. The time is that of a pass over the
@@ -57,9 +52,9 @@ fn write_steps(
 {
     let mut n = 0;
     for d in 0..last {
-        for k in 0..top as usize {
-            if marks[k + 1] == d + 1 {
-                steps[n] = chosen[k + 1];
+        for p in 1..top as usize + 1 {
+            if marks[p] == d + 1 {
+                steps[n] = chosen[p];
                 n += 1;
             }
         }
@@ -101,9 +96,9 @@ impl Ranked<'_> {
         marks.fill(0);
         marks[q as usize] = self.rank[q as usize];
         for d in (0..self.rank[q as usize]).rev() {
-            for k in 0..self.clauses.conditions as usize {
-                if marks[k + 1] == d + 1 {
-                    self.mark_body(chosen[k + 1] as usize - 1, marks);
+            for p in 1..self.clauses.conditions as usize + 1 {
+                if marks[p] == d + 1 {
+                    self.mark_body(chosen[p] as usize - 1, marks);
                 }
             }
         }

@@ -108,7 +108,7 @@ impl Levels {
             end: 0,
             level: 0,
         };
-        // The queue grows while its conditions are visited.
+        // No `for`: an iterator would borrow the queue, which grows while its conditions are visited.
         while front.head < self.reached.queue.len() {
             if front.head == front.end {
                 front.end = self.reached.queue.len();

@@ -10,7 +10,7 @@ use std::alloc::{AllocError, Global};
 
 // Where each condition occurs: the places of condition p form a chain, from place `first[p] - 1` to `next[place] - 1`
 // until 0, and place j is in the body of clause `owner[j]`.
-// Fixed memory needs the chains: a list of places for each condition would want room that its places alone tell.
+// The chains stay: places sorted by condition would fill as many tables and need a counting sort, which is no plainer.
 #[derive(Drop)]
 pub(super) struct Occurrences {
     first: Box<[u16; CONDITIONS]>,

@@ -1,12 +1,13 @@
-use Rattle.std.proofs.Common.{◌≡◌, ℕ, ◌+◌, ◌-◌, ◌<◌, cond, eqb, List, length, sym, ap, ◌∙◌, subst, arith, refl}
+use Rattle.std.proofs.Common.{◌≡◌, ℕ, ◌+◌, ◌-◌, ◌<◌, cond, eqb, List, length, sym, ap, ◌∙◌, subst, subst₂, arith, refl}
 use Rattle.horn.specs.Sheets.{Sheet, any_of}
-use Rattle.round.specs.Rows.{at, Rows}
+use Rattle.round.specs.Rows.{at, Rows, clause_in}
 use Rattle.round.specs.Lending.{rows_of, lent_sheet}
+use Rattle.horn.specs.Levels.{chosen_body}
 use Rattle.round.specs.Needed.{Marking}
 use Rattle.round.proofs.Needed.{marks_begun, marks_skip, marks_more, marks_down, marks_all, marked_row}
 use Rattle.round.proofs.Zeros.{cleared}
 use Rattle.round.proofs.Lending.{lent_lawful}
-use Rattle.round.proofs.propagation.scan.Ranked.mark_needed.Goals.{then-marks-k, else-marks-k}
+use Rattle.round.proofs.propagation.scan.Ranked.mark_needed.Goals.{then-marks-p, else-marks-p}
 use Rattle.round.proofs.propagation.scan.Ranked.mark_needed.Goals as goal
 
 pub loop-d-init : goal.loop-d-init
@@ -18,38 +19,57 @@ loop-d-init c =
 pub loop-d-preserved : goal.loop-d-preserved
 loop-d-preserved c =
     let s : Sheet = lent_sheet c.args.self.now.clauses in
-    let e : c.loop-k.k ≡ c.args.self.now.clauses.conditions = omega arith in
-    marks_down s (lent_lawful c.args.self.now.clauses) c.args.q c.requires.force (c.loop-d.d - 1) c.loop-k.marks
-    (subst (λ (x : ℕ). Marking s c.args.q (c.loop-d.d - 1 + 1) x c.loop-k.marks) e c.loop-k.invariant)
+    let e : c.loop-p.p - 1 ≡ c.args.self.now.clauses.conditions = omega (arith, c.loop-p.invariant.0) in
+    marks_down s (lent_lawful c.args.self.now.clauses) c.args.q c.requires.force (c.loop-d.d - 1) c.loop-p.marks
+    (subst (λ (x : ℕ). Marking s c.args.q (c.loop-d.d - 1 + 1) x c.loop-p.marks) e c.loop-p.invariant.1)
 
 pub overflow_sub-chosen : goal.overflow_sub-chosen
 overflow_sub-chosen c =
-    (marked_row (rows_of c.args.self.now.clauses) c.args.self.now.clauses.conditions (lent_lawful c.args.self.now.clauses) c.args.q c.requires.force c.args.chosen.now c.requires.choices
-    (c.loop-d.d - 1 + 1) c.loop-k.k c.loop-k.marks c.loop-k.invariant (omega arith) c.if-marks-k.true).0
+    let e : c.loop-p.p - 1 + 1 ≡ c.loop-p.p = omega (arith, c.loop-p.invariant.0) in
+    omega (
+      arith,
+      ap (at c.args.chosen.now) e,
+      (marked_row (rows_of c.args.self.now.clauses) c.args.self.now.clauses.conditions (lent_lawful c.args.self.now.clauses) c.args.q c.requires.force c.args.chosen.now c.requires.choices
+          (c.loop-d.d - 1 + 1) (c.loop-p.p - 1) c.loop-p.marks c.loop-p.invariant.1 (omega arith) (ap (at c.loop-p.marks) e ∙ c.if-marks-p.true)).0,
+    )
 
 pub mark_body-requires : goal.mark_body-requires
 mark_body-requires c =
-    (marked_row (rows_of c.args.self.now.clauses) c.args.self.now.clauses.conditions (lent_lawful c.args.self.now.clauses) c.args.q c.requires.force c.args.chosen.now c.requires.choices
-    (c.loop-d.d - 1 + 1) c.loop-k.k c.loop-k.marks c.loop-k.invariant (omega arith) c.if-marks-k.true).1
+    let e : c.loop-p.p - 1 + 1 ≡ c.loop-p.p = omega (arith, c.loop-p.invariant.0) in
+    omega (
+      arith,
+      ap (at c.args.chosen.now) e,
+      (marked_row (rows_of c.args.self.now.clauses) c.args.self.now.clauses.conditions (lent_lawful c.args.self.now.clauses) c.args.q c.requires.force c.args.chosen.now c.requires.choices
+          (c.loop-d.d - 1 + 1) (c.loop-p.p - 1) c.loop-p.marks c.loop-p.invariant.1 (omega arith) (ap (at c.loop-p.marks) e ∙ c.if-marks-p.true)).1,
+    )
 
-pub loop-k-preserved : goal.loop-k-preserved
-loop-k-preserved c =
-    let t : Rows = rows_of c.args.self.now.clauses in
-    let s : Sheet = lent_sheet c.args.self.now.clauses in
+pub loop-p-preserved : goal.loop-p-preserved
+loop-p-preserved c =
+    let rows = c.args.self.now.clauses in
+    let t : Rows = rows_of rows in
+    let s : Sheet = lent_sheet rows in
+    let table : List ℕ = c.args.self.now.rank.now in
     let d : ℕ = c.loop-d.d - 1 + 1 in
-    let k : ℕ = c.loop-k.k in
-    let marks : List ℕ = c.loop-k.marks in
-    elim c.if-marks-k.branch [
-      | then-marks-k w ↦ (
-          let row = marked_row t c.args.self.now.clauses.conditions (lent_lawful c.args.self.now.clauses) c.args.q c.requires.force c.args.chosen.now c.requires.choices
-          d k marks c.loop-k.invariant (omega arith) w.if-marks-k.true in
-          subst (λ (x : List ℕ). Marking s c.args.q d (k + 1) x) (sym w.marks-is)
-          (marks_more s (lent_lawful c.args.self.now.clauses) c.args.q c.requires.force d k marks c.loop-k.invariant c.args.self.now.rank.now w.mark_body.new.marks c.args.self.now.ranks
-          (omega arith) w.if-marks-k.true
-          (λ p. w.mark_body.ensures p ∙ ap (λ (ps : List ℕ). cond (any_of (λ b. eqb b p) ps) (at c.args.self.now.rank.now p) (at marks p)) row.2)))
-      | else-marks-k w ↦ (
-          subst (λ (x : List ℕ). Marking s c.args.q d (k + 1) x) (sym w.marks-is)
-          (marks_skip s (lent_lawful c.args.self.now.clauses) c.args.q c.requires.force d k marks c.loop-k.invariant w.if-marks-k.false))
+    let k : ℕ = c.loop-p.p - 1 in
+    let marks : List ℕ = c.loop-p.marks in
+    let v = c.loop-p.invariant in
+    let e : k + 1 ≡ c.loop-p.p = omega (arith, v.0) in
+    let on : k + 1 ≡ c.loop-p.p + 1 - 1 = omega (arith, v.0) in
+    elim c.if-marks-p.branch [
+      | then-marks-p w ↦ (
+          let hit : at marks (k + 1) ≡ d = ap (at marks) e ∙ w.if-marks-p.true in
+          let row = marked_row t rows.conditions (lent_lawful rows) c.args.q c.requires.force c.args.chosen.now c.requires.choices d k marks v.1 (omega arith) hit in
+          let body : (clause_in t (at c.args.chosen.now c.loop-p.p - 1)).body ≡ chosen_body s (k + 1) = ap (λ (x : ℕ). (clause_in t (at c.args.chosen.now x - 1)).body) (sym e) ∙ row.2 in (
+            omega arith,
+            subst₂ (λ (n : ℕ) (x : List ℕ). Marking s c.args.q d n x) on (sym w.marks-is)
+                (marks_more s (lent_lawful rows) c.args.q c.requires.force d k marks v.1 table w.mark_body.new.marks c.args.self.now.ranks (omega arith) hit
+                (λ p. w.mark_body.ensures p ∙ ap (λ (ps : List ℕ). cond (any_of (λ b. eqb b p) ps) (at table p) (at marks p)) body)),
+          ))
+      | else-marks-p w ↦ (
+        omega arith,
+        subst₂ (λ (n : ℕ) (x : List ℕ). Marking s c.args.q d n x) on (sym w.marks-is)
+            (marks_skip s (lent_lawful rows) c.args.q c.requires.force d k marks v.1 (λ h. w.if-marks-p.false (sym (ap (at marks) e) ∙ h))),
+      )
     ]
 
 pub returns : goal.returns
