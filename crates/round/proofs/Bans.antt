@@ -1,13 +1,15 @@
 -- A scan of the clauses by a table of ranks: the lowest broken ban, and the discharged places.
-use Rattle.std.proofs.Common.{◌≡◌, ℕ, zero, suc, ◌+◌, ◌-◌, ◌<◌, ◌≤◌, Bool, true, false, cond, not, ◌&&◌, List, [], ◌∷◌, ◌++◌, map, length, take, drop, Some, None, sym, refl, ap, ◌∙◌, arith}
-use Rattle.std.specs.List.{range_with_len, AllByRecursion}
+use Rattle.std.proofs.Common.{◌≡◌, ℕ, zero, suc, ◌+◌, ◌-◌, ◌<◌, ◌≤◌, Bool, true, false, cond, not, ◌&&◌, eqb, ltb, List, [], ◌∷◌, ◌++◌, map, length, take, drop, Some, None, sym, refl, ap, ◌∙◌, arith}
+use Rattle.std.specs.List.{range_with_len, AllByRecursion, count_by}
 use Rattle.std.proofs.ByRecursion.{All-weaker}
-use Rattle.std.proofs.lemmas.List.{take-append-drop, drop-drop, drop_all, take_more}
+use Rattle.std.proofs.lemmas.List.{take-append-drop, drop-drop, drop_all}
+use Rattle.std.proofs.lemmas.List.Sums.{sum_by-cons}
+use Rattle.std.proofs.lemmas.Bool.Decides.{nat_tests}
 use Rattle.std.proofs.lemmas.Bool.{cases_eq, cases_Bool, and_parts, and_from, or_from, both_ways, cond-true, cond-false}
 use Rattle.horn.specs.Sheets.{Sheet, Clause, Condition, Lawful, LawfulClause, all_of, any_of, satisfies, holds_outcome, clause_at}
 use Rattle.horn.specs.Pebblings.{InForce, Broken}
 use Rattle.horn.specs.Levels.{in_force, first}
-use Rattle.horn.specs.Bans.{no_outcome, breaks, tally, places, discharged}
+use Rattle.horn.specs.Bans.{no_outcome, breaks, tally, places}
 use Rattle.horn.specs.Lawfulness.{satisfiable}
 use Rattle.horn.proofs.Tests.{none_some, all_true, all_from, all_nth}
 use Rattle.horn.proofs.Forced.{none_lacked}
@@ -110,9 +112,16 @@ tally_append f (x ∷ xs) ys = split (cases_Bool (f x))
     (λ e. rw e (omega (arith, tally_append f xs ys)))
     (λ e. rw e (tally_append f xs ys))
 
--- one more element
-pub tally_more : (f : ℕ → Bool) (xs : List ℕ) (i : ℕ) → i < length xs → tally f (take (i + 1) xs) ≡ tally f (take i xs) + cond (f (at xs i)) 1 0
-tally_more f xs i h = ap (tally f) (take_more xs i 0 h) ∙ tally_append f (take i xs) (at xs i ∷ [])
+pub no_rank : (r : ℕ) → eqb r 0 ≡ not (ltb 0 r)
+no_rank r = grind (arith, nat_tests)
+
+pub tally_count : (f : ℕ → Bool) (xs : List ℕ) → count_by f xs ≡ tally f xs
+tally_count f [] = refl
+tally_count f (x ∷ xs) = one (f x) (count_by f (x ∷ xs)) (sum_by-cons (λ y. cond (f y) 1 0) x xs) (tally_count f xs)
+  where
+    one : (b : Bool) (n : ℕ) → n ≡ cond b 1 0 + count_by f xs → count_by f xs ≡ tally f xs → n ≡ cond b (suc (tally f xs)) (tally f xs)
+    one true n e h = omega arith
+    one false n e h = omega arith
 
 -- the bodies fill the places
 places_from : (f : ℕ → Bool) (t : Rows) → Filled t → (c k : ℕ) → c + k ≡ length t.outs
@@ -130,15 +139,6 @@ places_from f t w c (suc k) e =
     let whole : tally f (take (b - a) (drop a t.places) ++ drop (b - a) (drop a t.places)) ≡ tally f (drop a t.places) =
     ap (tally f) (take-append-drop (b - a) (drop a t.places)) in
     omega (arith, ih, cut, whole, tally_append f (take (b - a) (drop a t.places)) (drop (b - a) (drop a t.places)))
-
--- the places whose condition has a rank are the discharged ones
-pub discharged_is : (t : Rows) → Filled t → (top : ℕ) (table : List ℕ) → Lawful (sheet_in top t) → Ranks (sheet_in top t) table
-    → tally (ranked table) t.places ≡ discharged (sheet_in top t)
-discharged_is t w top table lawful r =
-    let s : Sheet = sheet_in top t in
-    sym (sym (places_agree s (ranked table) (in_force s) (same t top table lawful r) (clauses_in t) lawful)
-    ∙ places_from (ranked table) t w 0 (length t.outs) (omega arith)
-    ∙ ap (λ (x : ℕ). tally (ranked table) (drop x t.places)) w.begins)
 
 -- Counted over the places or over the bodies, by the table's ranks or by what is in force, among the conditions that pass another test.
 pub places_ranked : (t : Rows) → Filled t → (top : ℕ) (table : List ℕ) → Lawful (sheet_in top t) → Ranks (sheet_in top t) table → (g : ℕ → Bool)

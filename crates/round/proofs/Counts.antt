@@ -1,13 +1,12 @@
 -- The counters, step by step.
-use Rattle.std.proofs.Common.{◌≡◌, ℕ, ◌+◌, ◌-◌, ◌<◌, ◌≤◌, true, false, cond, eqb, ◌⊎◌, List, length, set, sym, refl, ap, ◌∙◌, inl, inr, arith}
+use Rattle.std.proofs.Common.{◌≡◌, ℕ, ◌+◌, ◌-◌, ◌<◌, ◌≤◌, true, false, cond, eqb, List, length, set, sym, refl, ap, ◌∙◌, inl, inr, arith}
 use Rattle.std.proofs.lemmas.Bool.{cases_lt, cases_eq, eq-eqb, ne_eqb}
 use Rattle.round.specs.Rows.{at, Rows, Body, Filled, LawfulRows}
 use Rattle.round.specs.Occurrences.{Owned}
-use Rattle.round.specs.Steps.{Entered, Queued, Counted, Close, total, zeros}
+use Rattle.round.specs.Steps.{Entered, Extended, Queued, Counted, Close, total}
 use Rattle.round.proofs.Sets.{at_same, at_other, split}
-use Rattle.round.proofs.Zeros.{zeros_pos}
 use Rattle.round.proofs.Levels.{within}
-use Rattle.round.proofs.Queues.{Extends, Same, entered_extends, entered_same, entered_ranked, queued_entered, highest}
+use Rattle.round.proofs.Queues.{Extends, longer, last_is, entered_extends, entered_same, entered_ranked, queued_entered, highest}
 use Rattle.round.proofs.Totals.{total_same, total_less, total_zero}
 
 -- f with 0 at x
@@ -38,24 +37,19 @@ close_extends t rank rank' ext c v =
       )),
     )
 
--- what was entered had room
-pub room_or_same : {rank queue : List ℕ} {o r tail : ℕ} {rank' queue' : List ℕ} {tail' : ℕ} → length rank ≤ length queue → o < length rank
-    → tail + zeros rank ≤ length rank → Entered o r rank queue tail rank' queue' tail' → (tail < length queue) ⊎ (tail' ≡ tail)
-room_or_same {rank} {queue} {o} space known room e = split e.cases
-    (λ a. inr a.0)
-    (λ a. inl (omega (arith, zeros_pos rank o known a.4)))
-
 -- `enter`
-pub counted_entered : {t : Rows} {m : ℕ} {rank queue count : List ℕ} {head end tail level done next p cursor o r : ℕ} {rank' queue' : List ℕ} {tail' : ℕ}
-    → Queued t rank queue head end tail level → tail < length queue ⊎ (tail' ≡ tail) → done ≤ tail
-    → Entered o r rank queue tail rank' queue' tail'
-    → Counted t m rank queue count done next tail level p cursor → Counted t m rank' queue' count done next tail' level p cursor
-counted_entered {t} {m} {rank} {queue} {count} {head} {end} {tail} {level} {done} {next} {p} {cursor} {o} {r} {rank'} {queue'} {tail'} q space dl e w =
+pub counted_entered : {t : Rows} {m : ℕ} {rank queue count : List ℕ} {head end level done next p cursor o r : ℕ} {rank' queue' : List ℕ}
+    → Queued t rank queue head end (length queue) level → done ≤ length queue
+    → Entered o r rank queue rank' queue'
+    → Counted t m rank queue count done next (length queue) level p cursor → Counted t m rank' queue' count done next (length queue') level p cursor
+counted_entered {t} {m} {rank} {queue} {count} {head} {end} {level} {done} {next} {p} {cursor} {o} {r} {rank'} {queue'} q dl e w =
+    let tail : ℕ = length queue in
+    let tail' : ℕ = length queue' in
     let ext : Extends rank rank' = entered_extends e in
-    let same : (tail ≤ tail') × Same tail queue queue' = entered_same e in
+    let same : Extended queue queue' = entered_same e in
     let new : tail < tail' → (tail' ≡ tail + 1) × (at queue' tail ≡ o) × (at rank o ≡ 0) = λ l. split e.cases
-    (λ a. absurd (omega (arith, a.0)))
-    (λ a. (a.0, ap (λ (x : List ℕ). at x tail) a.2 ∙ at_same queue tail o tail (split space (λ k. k) (λ k. absurd (omega arith))) refl, a.4)) in
+    (λ a. absurd (omega (arith, ap (λ (x : List ℕ). length x) a.1)))
+    (λ a. (ap (λ (x : List ℕ). length x) a.1 ∙ longer queue o, ap (λ (x : List ℕ). at x tail) a.1 ∙ last_is queue o, a.3)) in
     record {
       pending = w.pending;
       counts = w.counts;
@@ -168,30 +162,30 @@ module _ {t : Rows} {owner rank queue count : List ℕ} {head end tail level : �
         }
 
 -- the clause's last place is discharged and its outcome entered
-module _ {n : ℕ} {t : Rows} {owner rank queue count : List ℕ} {head end tail level : ℕ} (place : ℕ) (lawful : LawfulRows n t)
+module _ {n : ℕ} {t : Rows} {owner rank queue count : List ℕ} {head end level : ℕ} (place : ℕ) (lawful : LawfulRows n t)
     (o : Owned t (length t.outs) (length t.places) owner)
-    (q : Queued t rank queue head end tail level)
+    (q : Queued t rank queue head end (length queue) level)
     (at_head : (head < end) × (at queue head ≡ at t.places place))
     (l : place < length t.places)
-    (w : Counted t (length t.outs) rank queue count head (head + 1) tail level (at t.places place) (place + 1))
+    (w : Counted t (length t.outs) rank queue count head (head + 1) (length queue) level (at t.places place) (place + 1))
     (last : at count (at owner place) ≡ 1)
-    (space : length rank ≤ length queue) (known : at t.outs (at owner place) < length rank)
-    {rank' queue' : List ℕ} {tail' : ℕ}
-    (e : Entered (at t.outs (at owner place)) (level + 1) rank queue tail rank' queue' tail')
+    (known : at t.outs (at owner place) < length rank)
+    {rank' queue' : List ℕ}
+    (e : Entered (at t.outs (at owner place)) (level + 1) rank queue rank' queue')
   where
-    pub last_queued : Queued t rank' queue' head end tail' level
-    last_queued = queued_entered q space (at owner place) (o.within place l).0 known
+    pub last_queued : Queued t rank' queue' head end (length queue') level
+    last_queued = queued_entered q (at owner place) (o.within place l).0 known
         (count_last place lawful.rows o q at_head l w last) e
 
-    pub last_same : (tail ≤ tail') × Same tail queue queue'
+    pub last_same : Extended queue queue'
     last_same = entered_same e
 
     pub last_counted : length t.outs ≤ length count
-        → Counted t (length t.outs) rank' queue' (set count (at owner place) (at count (at owner place) - 1)) head (head + 1) tail' level (at t.places place) place
+        → Counted t (length t.outs) rank' queue' (set count (at owner place) (at count (at owner place) - 1)) head (head + 1) (length queue') level (at t.places place) place
     last_counted sp =
         let here : (head < end) × (at queue' head ≡ at t.places place) = (at_head.0, last_same.1 head (omega (arith, at_head.0, q.order)) ∙ at_head.1) in
         counted_discharged place lawful.rows o last_queued here l
-        (counted_entered q (room_or_same space known q.room e) (omega (arith, q.order)) e w)
+        (counted_entered q (omega (arith, q.order)) e w)
         sp
         (λ z pos.
         let r : 0 < at rank' (at t.outs (at owner place)) =

@@ -46,14 +46,6 @@ between_append ps qs a b h l =
 
 module _ (os ss ps : List ℕ) (s : Writing (rows os ss ps)) where
   -- one place more
-  pub writing_place : (p : ℕ) → Writing (rows os ss (ps ++ p ∷ []))
-  writing_place p = record {
-    counted = s.counted;
-    begins = s.begins;
-    rising = s.rising;
-    ends = λ k h. omega (arith, s.ends k h, length_push ps p);
-  }
-
   pub clauses_place : (p : ℕ) → clauses_in (rows os ss (ps ++ p ∷ [])) ≡ clauses_in (rows os ss ps)
   clauses_place p = alike (clause_in (rows os ss (ps ++ p ∷ []))) (clause_in (rows os ss ps)) (length os)
       (λ k h. let hi : k + 1 ≤ length os = omega arith in ap (λ (b : List ℕ). record { body = b; outcome = kept_outcome (get_or os k 0) }) (between_append ps (p ∷ []) (get_or ss k 0) (get_or ss (k + 1) 0) (s.rising k h) (s.ends (k + 1) hi)))
@@ -68,26 +60,6 @@ module _ (os ss ps : List ℕ) (s : Writing (rows os ss ps)) where
   start_new e = get_or_push ss e 0 (length os + 1) s.counted
 
   -- the clause is ended
-  pub writing_end : (o : ℕ) → Writing (rows (os ++ o ∷ []) (ss ++ length ps ∷ []) ps)
-  writing_end o = record {
-    counted = omega (arith, length_push os o, length_push ss (length ps), s.counted);
-    begins = start_old 0 (omega arith) (length ps) ∙ s.begins;
-    rising = λ k h. rise k (dec_le (k + 1) (length os)) (omega (arith, length_push os o));
-    ends = λ k h. end k (dec_le k (length os)) (omega (arith, length_push os o));
-  }
-    where
-      rise : (k : ℕ) → Dec (k + 1 ≤ length os) → k ≤ length os → get_or (ss ++ length ps ∷ []) k 0 ≤ get_or (ss ++ length ps ∷ []) (k + 1) 0
-      rise k (yes l) h = omega (arith, s.rising k (omega arith), start_old k h (length ps), start_old (k + 1) l (length ps))
-      rise k (no l) h =
-          let e : k + 1 ≡ length os + 1 = omega arith in
-          omega (arith, s.ends k h, start_old k h (length ps), ap (λ j. get_or (ss ++ length ps ∷ []) j 0) e ∙ start_new (length ps))
-
-      end : (k : ℕ) → Dec (k ≤ length os) → k ≤ length os + 1 → get_or (ss ++ length ps ∷ []) k 0 ≤ length ps
-      end k (yes l) h = omega (arith, s.ends k l, start_old k l (length ps))
-      end k (no l) h =
-          let e : k ≡ length os + 1 = omega arith in
-          omega (arith, ap (λ j. get_or (ss ++ length ps ∷ []) j 0) e ∙ start_new (length ps))
-
   pub body_end : (o : ℕ) → unfinished (rows (os ++ o ∷ []) (ss ++ length ps ∷ []) ps) ≡ []
   body_end o =
       let e = ap (λ j. get_or (ss ++ length ps ∷ []) j 0) (length_push os o) ∙ start_new (length ps) in

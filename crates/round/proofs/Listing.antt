@@ -1,9 +1,10 @@
 -- The steps of an explanation, listed from the marks of what a condition needs.
-use Rattle.std.proofs.Common.{◌≡◌, ℕ, zero, suc, ◌+◌, ◌<◌, ◌≤◌, Bool, true, false, cond, ◌&&◌, eqb, ltb, leb, List, [], ◌∷◌, ◌++◌, map, length, take, drop, set, sym, refl, ap, ◌∙◌, ap₂, inl, inr, ⊎_elim, add-one, arith, length-append, length-drop, drop-cons}
+use Rattle.std.proofs.Common.{◌≡◌, ℕ, zero, suc, ◌+◌, ◌-◌, ◌<◌, ◌≤◌, Bool, true, false, cond, ◌&&◌, eqb, ltb, leb, List, [], ◌∷◌, ◌++◌, map, length, take, drop, set, sym, refl, ap, ◌∙◌, ap₂, inl, inr, ⊎_elim, add-one, arith, length-append, length-drop, drop-cons}
 use lib.ListN.{length-map}
 use lib.Seq.{set_at}
-use Rattle.std.specs.List.{AllByRecursion}
-use Rattle.std.proofs.lemmas.List.{append_assoc, append-nil, length_push, map_push, take_at}
+use Rattle.std.specs.List.{AllByRecursion, count_by}
+use Rattle.std.proofs.lemmas.List.Sums.{sum_by_push}
+use Rattle.std.proofs.lemmas.List.{append_assoc, append-nil, length_push, map_push, take_at, take_more, get_or-drop}
 use Rattle.std.proofs.lemmas.Bool.{cases_Bool, cases_lt, both_ways, and_left, eq-eqb, ne_eqb, le-leb, cond-true, cond-false}
 use Rattle.std.proofs.lemmas.Bool.Decides.{nat_tests}
 use Rattle.horn.specs.Sheets.{Sheet}
@@ -21,23 +22,25 @@ use Rattle.round.proofs.Sets.{split}
 abbrev pub so_far : List ℕ → ℕ → ℕ → ℕ → List ℕ
 so_far marks top d k = by_mark marks top d ++ listed (λ p. eqb (at marks p) (suc d)) k
 
-module _ (marks : List ℕ) (top d k : ℕ) where
-  pub so_far_hit : at marks (k + 1) ≡ d + 1 → so_far marks top d (k + 1) ≡ so_far marks top d k ++ (k + 1) ∷ []
+module _ (marks : List ℕ) (top d p : ℕ) (from_one : 1 ≤ p) where
+  pub so_far_hit : at marks p ≡ d + 1 → so_far marks top d p ≡ so_far marks top d (p - 1) ++ p ∷ []
   so_far_hit e =
-      let m : k + 1 ≡ suc k = add-one k in
+      let k : ℕ = p - 1 in
+      let m : p ≡ suc k = omega arith in
       let f : eqb (at marks (suc k)) (suc d) ≡ true = eq-eqb (at marks (suc k)) (suc d) (sym (ap (at marks) m) ∙ e ∙ add-one d) in
       ap (so_far marks top d) m
-      ∙ ap (λ (b : Bool). by_mark marks top d ++ (listed (λ p. eqb (at marks p) (suc d)) k ++ cond b (suc k ∷ []) [])) f
-      ∙ sym (append_assoc (by_mark marks top d) (listed (λ p. eqb (at marks p) (suc d)) k) (suc k ∷ []))
+      ∙ ap (λ (b : Bool). by_mark marks top d ++ (listed (λ x. eqb (at marks x) (suc d)) k ++ cond b (suc k ∷ []) [])) f
+      ∙ sym (append_assoc (by_mark marks top d) (listed (λ x. eqb (at marks x) (suc d)) k) (suc k ∷ []))
       ∙ ap (λ (x : ℕ). so_far marks top d k ++ x ∷ []) (sym m)
 
-  pub so_far_miss : (at marks (k + 1) ≡ d + 1 → ⊥) → so_far marks top d (k + 1) ≡ so_far marks top d k
+  pub so_far_miss : (at marks p ≡ d + 1 → ⊥) → so_far marks top d p ≡ so_far marks top d (p - 1)
   so_far_miss n =
-      let m : k + 1 ≡ suc k = add-one k in
+      let k : ℕ = p - 1 in
+      let m : p ≡ suc k = omega arith in
       let f : eqb (at marks (suc k)) (suc d) ≡ false = ne_eqb (at marks (suc k)) (suc d) (λ e. n (ap (at marks) m ∙ e ∙ sym (add-one d))) in
       ap (so_far marks top d) m
-      ∙ ap (λ (b : Bool). by_mark marks top d ++ (listed (λ p. eqb (at marks p) (suc d)) k ++ cond b (suc k ∷ []) [])) f
-      ∙ ap (λ (l : List ℕ). by_mark marks top d ++ l) (append-nil (listed (λ p. eqb (at marks p) (suc d)) k))
+      ∙ ap (λ (b : Bool). by_mark marks top d ++ (listed (λ x. eqb (at marks x) (suc d)) k ++ cond b (suc k ∷ []) [])) f
+      ∙ ap (λ (l : List ℕ). by_mark marks top d ++ l) (append-nil (listed (λ x. eqb (at marks x) (suc d)) k))
 
 -- what never falls from one number to the next
 rising : (f : ℕ → ℕ) → ((n : ℕ) → f n ≤ f (suc n)) → (k n : ℕ) → k ≤ n → f k ≤ f n
@@ -56,9 +59,9 @@ so_far_room marks top d k last l h =
     rising (λ n. length (by_mark marks top n)) (λ n. omega (arith, length-append (by_mark marks top n) (listed (λ p. eqb (at marks p) (suc n)) top))) (suc d) last (omega arith) in
     omega (arith, a, b, length-append (by_mark marks top d) (listed f k), length-append (by_mark marks top d) (listed f top))
 
-pub hit_room : (marks : List ℕ) (top d k last : ℕ) → k < top → d < last → at marks (k + 1) ≡ d + 1 → length (so_far marks top d k) < length (by_mark marks top last)
-hit_room marks top d k last l h e =
-    omega (arith, so_far_room marks top d (k + 1) last (omega arith) h, ap length (so_far_hit marks top d k e), length_push (so_far marks top d k) (k + 1))
+pub hit_room : (marks : List ℕ) (top d p last : ℕ) → 1 ≤ p → p ≤ top → d < last → at marks p ≡ d + 1 → length (so_far marks top d (p - 1)) < length (by_mark marks top last)
+hit_room marks top d p last one l h e =
+    omega (arith, so_far_room marks top d p last l h, ap length (so_far_hit marks top d p one e), length_push (so_far marks top d (p - 1)) p)
 
 -- a buffer with the clauses of the conditions `done`, and then what stood there before
 abbrev pub Written : List ℕ → List ℕ → List ℕ → List ℕ → Type 0
@@ -170,3 +173,22 @@ module _ (s : Sheet) (q n : ℕ) (low : 0 < q) (high : q ≤ s.top) (h : in_forc
   explains_ok l r k before after er ek ea =
       let written : take k after ≡ explanation s q = ap (take k) ea ∙ take_at (explanation s q) (drop k before) k (sym ek) in
       inr (⊎_elim (λ e. omega arith) (λ e. omega arith), inr (λ e. both_ways (in_force s q) e h, inr (λ e. omega arith, λ i. ok (er i ∷ (ek i ∷ [])) (written i))))
+
+-- how many marks stand from number 1 on
+pub marks_counted : (marks : List ℕ) (n : ℕ) → n < length marks → count_by (λ x. ltb 0 x) (take n (drop 1 marks)) ≡ how_many (ranked marks) n
+marks_counted marks zero h = refl
+marks_counted marks (suc n) h =
+    let rest : List ℕ = drop 1 marks in
+    let m : suc n ≡ n + 1 = sym (add-one n) in
+    let here : at rest n ≡ at marks (suc n) = get_or-drop 1 marks n 0 ∙ ap (at marks) (omega arith) in
+    ap (λ (k : ℕ). count_by (λ x. ltb 0 x) (take k rest)) m
+    ∙ ap (count_by (λ x. ltb 0 x)) (take_more rest n 0 (omega (arith, length-drop 1 marks)))
+    ∙ sum_by_push (λ x. cond (ltb 0 x) 1 0) (take n rest) (at rest n)
+    ∙ one (ltb 0 (at rest n)) (ltb 0 (at marks (suc n))) (ap (ltb 0) here) (marks_counted marks n (omega arith))
+  where
+    one : (a b : Bool) → a ≡ b → count_by (λ x. ltb 0 x) (take n (drop 1 marks)) ≡ how_many (ranked marks) n
+        → count_by (λ x. ltb 0 x) (take n (drop 1 marks)) + cond a 1 0 ≡ cond b (suc (how_many (ranked marks) n)) (how_many (ranked marks) n)
+    one true true e h = omega arith
+    one false false e h = omega arith
+    one true false e h = absurd (both_ways true e refl)
+    one false true e h = absurd (both_ways false refl e)

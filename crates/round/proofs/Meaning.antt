@@ -1,7 +1,7 @@
 -- The sheet that rows hold: its clauses, its bodies, its levels and its ranks.
-use Rattle.std.proofs.Common.{◌≡◌, ℕ, zero, suc, ◌+◌, ◌-◌, ◌<◌, ◌≤◌, min, Bool, true, false, ltb, List, [], ◌∷◌, map, length, take, drop, Some, sym, refl, ap, ◌∙◌, arith}
-use Rattle.std.specs.List.{slice_get, range_with_len}
-use Rattle.std.proofs.lemmas.List.{get_or-take, get_or-drop, length-take, length-drop}
+use Rattle.std.proofs.Common.{◌≡◌, ℕ, zero, suc, ◌+◌, ◌-◌, ◌<◌, ◌≤◌, min, Bool, true, false, ◌&&◌, ltb, List, [], ◌∷◌, map, length, take, drop, Some, sym, refl, ap, ◌∙◌, arith}
+use Rattle.std.specs.List.{slice_get, range_with_len, All, list_all}
+use Rattle.std.proofs.lemmas.List.{get_or_default, get_or-take, get_or-drop, length-take, length-drop}
 use Rattle.std.proofs.lemmas.Bool.{cases_lt, cases_Bool, and_parts, and_from, eq-eqb, eqb-true, both_ways, cond-true, cond-false, lt-ltb}
 use Rattle.horn.specs.Sheets.{Sheet, Clause, Lawful, all_of, is}
 use Rattle.horn.specs.Levels.{level, in_force, rank, rank_or_zero}
@@ -74,6 +74,21 @@ body_below n t w c j h =
     let l : j < min (b - a) (length t.places - a) = omega (arith, length-take (b - a) (drop a t.places), length-drop a t.places) in
     let e : at (clause_in t c).body j ≡ at t.places (a + j) = get_or-take (b - a) (drop a t.places) j 0 (omega arith) ∙ get_or-drop a t.places j 0 in
     omega (arith, e, w.conditions (a + j) (omega arith))
+
+pub body_conditions : {n : ℕ} (t : Rows) → LawfulRows n t → (c : ℕ) → All (λ p. p < n) (clause_in t c).body
+body_conditions {n} t w c k d h = omega (arith, get_or_default (clause_in t c).body k d 0 h, body_below n t w c k h)
+
+pub place_conditions : {n : ℕ} (t : Rows) → LawfulRows n t → All (λ p. p < n) t.places
+place_conditions t w k d h = omega (arith, get_or_default t.places k d 0 h, w.conditions k h)
+
+-- a sheet's tests of a list are those of the library
+all_of_list : (f : ℕ → Bool) (xs : List ℕ) → list_all f xs ≡ all_of f xs
+all_of_list f [] = refl
+all_of_list f (x ∷ xs) = ap (λ (b : Bool). f x && b) (all_of_list f xs)
+
+-- what a test of all of a body's conditions answered
+pub body_tested : (f : ℕ → Bool) (t : Rows) (c : ℕ) (body : List ℕ) (answer : Bool) → body ≡ (clause_in t c).body → answer ≡ list_all f body → all_of f (clause_in t c).body ≡ answer
+body_tested f t c body answer e h = sym (all_of_list f (clause_in t c).body) ∙ sym (ap (list_all f) e) ∙ sym h
 
 pub gives_from : (o p : ℕ) → 0 < p → o ≡ p → is (kept_outcome o) p ≡ true
 gives_from zero p h e = absurd (omega arith)

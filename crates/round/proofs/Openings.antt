@@ -1,25 +1,32 @@
 -- What the tables of a round hold after an opening.
-use Rattle.std.proofs.Common.{◌≡◌, ℕ, zero, suc, ◌+◌, ◌-◌, ◌<◌, ◌≤◌, true, List, [], ◌∷◌, map, length, get_or, take, drop, replicate, Some, vec_items, vec_len, sym, refl, ap, ◌∙◌, subst, subst₂, add-one, arith}
+use Rattle.std.proofs.Common.{◌≡◌, ℕ, zero, suc, ◌+◌, ◌-◌, ◌<◌, ◌≤◌, Bool, List, [], ◌∷◌, map, length, get_or, drop, Some, not, ◌&&◌, vec_items, vec_len, sym, refl, ap, ◌∙◌, subst, Err, inl, inr, ⊎_elim, add-one, arith}
 use native.Mathlib.Decide.{dec_le}
 use Rattle.std.proofs.lemmas.List.{take_all, drop_all}
-use Rattle.horn.specs.Sheets.{Sheet, Clause, Condition, Lawful, LawfulClause, empty_sheet, all_of}
-use Rattle.horn.specs.Bans.{discharged}
+use Rattle.horn.specs.Sheets.{Sheet, Clause, Condition, Lawful, LawfulClause, empty_sheet, all_of, literals}
+use Rattle.std.proofs.lemmas.Bool.{le-ltb, not_from_false}
+use Rattle.horn.specs.Bans.{places, discharged, lowest_broken}
+use Rattle.horn.specs.Levels.{in_force}
 use Rattle.horn.specs.Lawfulness.{lawful, satisfiable}
 use Rattle.horn.specs.Sources.{LawfulSource}
 use Rattle.horn.proofs.Lawfulness.{lawful_tested}
 use Rattle.horn.proofs.Tests.{all_nth}
+use mathlib.Core.Path.{fun_ext}
 use Rattle.round.specs.Rows.{at, Rows, Body, Filled, LawfulRows, kept_outcome, clause_in, clauses_in, sheet_in}
-use Rattle.round.specs.Ranks.{Ranks}
+use Rattle.round.specs.Ranks.{Ranks, ranked}
+use Rattle.round.specs.Lent.{SheetRows}
 use Rattle.round.specs.Held.{held_rows, held_sheet, Emptied, Holds}
-use Rattle.round.specs.Answers.{Opens, ok}
+use Rattle.round.specs.Answers.{Opens, ok, refusal}
 use Rattle.round.specs.Calls.{nothing}
-use Rattle.round.specs.Good.{Usable, Stocked, Kept, Good, Unmoved, state_sheet, is_filing, filing_of, opened_sheet, state_standing, state_position}
+use Rattle.round.specs.Good.{Usable, Bare, Stocked, Kept, Good, Unmoved, RankedAnew, Settled, state_sheet, is_filing, filing_of, opened_sheet, state_standing}
+use Rattle.round.specs.declared.refusals.Refusal.{Refusal}
+use Rattle.round.specs.declared.refusals.Refusal.TheVariants.{Contradiction}
 use Rattle.round.specs.declared.tables.Tables.{Tables}
 use Rattle.round.specs.declared.state.State.{State}
 use Rattle.round.proofs.Growing.{filled_writing}
 use Rattle.round.proofs.Lookups.{nth_between, length_clauses}
 use Rattle.round.proofs.Meaning.{clause_here}
 use Rattle.round.proofs.Replying.{opens_ok}
+use Rattle.round.proofs.Rolls.{and_true}
 
 -- each place belongs to a clause
 owned : (t : Rows) → Filled t → (j n : ℕ) → n ≤ length t.outs → j < at t.starts n → (c : ℕ) × (c < length t.outs) × Body t c j
@@ -58,13 +65,15 @@ lawful_rows top t h f l = record {
 pub stocked_lawful : (st : State) → Stocked st → Lawful (state_sheet st)
 stocked_lawful st s = (lawful_tested (state_sheet st)).0 s.lawfully
 
-pub stocked_rows : (st : State) → Stocked st → LawfulRows 1001 (held_rows st.tables)
-stocked_rows st s = lawful_rows st.tables.conditions (held_rows st.tables) s.few_conditions s.filled (stocked_lawful st s)
-
-zeros_at : (n p : ℕ) → at (replicate n 0) p ≡ 0
-zeros_at zero p = refl
-zeros_at (suc n) zero = refl
-zeros_at (suc n) (suc p) = zeros_at n p
+-- the clauses that a state holds can be lent
+pub lendable : (st : State) → Stocked st → SheetRows st.tables.conditions (held_rows st.tables)
+lendable st s = record {
+  rows = lawful_rows st.tables.conditions (held_rows st.tables) s.few_conditions s.filled (stocked_lawful st s);
+  few_conditions = s.few_conditions;
+  few_clauses = omega (arith, st.tables.outcomes.ok.0, st.tables.few.0);
+  few_places = omega (arith, st.tables.places.ok.0, st.tables.few.1);
+  lawfully = s.lawfully;
+}
 
 -- Where all clauses are those that were opened and no mark is set, nothing stands.
 module _ (st : State) (whole : st.opened ≡ vec_len st.tables.outcomes) (bare : vec_items st.marks ≡ []) where
@@ -98,27 +107,24 @@ module _ (st : State) (whole : st.opened ≡ vec_len st.tables.outcomes) (bare :
       }
 
 -- an empty round is good
-pub good_empty : (st : State) → Emptied st.tables → st.opened ≡ 0 → vec_items st.marks ≡ [] → vec_items st.rank ≡ replicate 1001 0 → Usable st
-    → Good st × (state_sheet st ≡ empty_sheet) × (opened_sheet st ≡ empty_sheet) × (state_standing st ≡ nothing)
-good_empty st e o m z u =
+pub good_empty : (st : State) → Emptied st.tables → Bare st → Good st × (state_sheet st ≡ empty_sheet) × (opened_sheet st ≡ empty_sheet) × (state_standing st ≡ nothing)
+good_empty st e b =
     let no-conditions : st.tables.conditions ≡ 0 = ap (λ (s : Sheet). s.top) e.sheet in
-    let whole : st.opened ≡ vec_len st.tables.outcomes = o ∙ sym e.no_clauses in (
+    let whole : st.opened ≡ vec_len st.tables.outcomes = b.opened ∙ sym e.no_clauses in (
       record {
         stocked = record {
-          usable = u;
+          usable = b.usable;
           filled = e.filled;
           few_conditions = omega arith;
-          few_clauses = omega (arith, e.no_clauses);
-          few_places = omega (arith, e.no_places);
           lawfully = ap lawful e.sheet;
         };
-        kept = whole_kept st whole m e.filled (omega (arith, e.no_clauses)) (omega (arith, e.no_places));
-        ranked = subst (λ (s : Sheet). Ranks s (vec_items st.rank)) (sym e.sheet) (λ p h. ap (λ (xs : List ℕ). at xs p) z ∙ zeros_at 1001 p);
+        kept = whole_kept st whole b.marks e.filled (omega (arith, e.no_clauses)) (omega (arith, e.no_places));
+        ranked = subst (λ (s : Sheet). Ranks s st.rank.value) (sym e.sheet) (λ p h. b.unranked p);
         unbroken = ap satisfiable e.sheet;
       },
       e.sheet,
-      whole_sheet st whole m ∙ e.sheet,
-      nothing_stands st whole m,
+      whole_sheet st whole b.marks ∙ e.sheet,
+      nothing_stands st whole b.marks,
     )
 
 -- the tables hold a source's sheet
@@ -129,8 +135,6 @@ stocked_from st s l h u =
       usable = u;
       filled = h.copied.filled;
       few_conditions = omega (arith, l.few_conditions);
-      few_clauses = omega (arith, h.copied.few_clauses);
-      few_places = omega (arith, h.copied.few_places);
       lawfully = ap lawful h.sheet ∙ (lawful_tested s).1 l.lawful;
     }
 
@@ -142,9 +146,9 @@ module _ (st st' : State) (t : st'.tables ≡ st.tables) (o : st'.opened ≡ st.
   mixed_is : mixed st st' ≡ st'
   mixed_is = λ i. record { tables = sym t i; opened = sym o i; marks = sym m i; rank = st'.rank; spare = st'.spare; chosen = st'.chosen; scratch = st'.scratch }
 
-  pub unmoved_from : Stocked st → Usable st' → Unmoved st st'
-  unmoved_from s u =
-      let w : Usable (mixed st st') = record { roomy = s.usable.roomy; ranks = u.ranks; spares = u.spares; choices = u.choices; ready = u.ready; mark_room = s.usable.mark_room } in
+  pub unmoved_from : Stocked st → Unmoved st st'
+  unmoved_from s =
+      let w : Usable (mixed st st') = record { mark_room = s.usable.mark_room } in
       record {
         tables = t;
         opened = o;
@@ -153,44 +157,32 @@ module _ (st st' : State) (t : st'.tables ≡ st.tables) (o : st'.opened ≡ st.
           usable = w;
           filled = s.filled;
           few_conditions = s.few_conditions;
-          few_clauses = s.few_clauses;
-          few_places = s.few_places;
           lawfully = s.lawfully;
         });
       }
 
--- Where the clauses and marks stay, so does what the calls see, and what holds of it.
-module _ (st st' : State) (u : Unmoved st st') where
-  pub unmoved_position : state_position st' ≡ state_position st
-  unmoved_position = λ i. record {
-    sheet = record { top = (u.tables i).conditions; clauses = take (u.opened i) (held_sheet (u.tables i)).clauses };
-    standing = record { filings = map filing_of (drop (u.opened i) (held_sheet (u.tables i)).clauses); marks = vec_items (u.marks i) };
-  }
-
-  pub unmoved_kept : Kept st → Kept st'
-  unmoved_kept k = subst Kept (mixed_is st st' u.tables u.opened u.marks) (record {
-    few_opened = k.few_opened;
-    opened_clauses = k.opened_clauses;
-    few_filings = k.few_filings;
-    filings = k.filings;
-    starts = k.starts;
-    few_marks = k.few_marks;
-    marks_rise = k.marks_rise;
-    marks_stand = k.marks_stand;
-  })
+-- where no condition had a rank, all discharged places are newly discharged
+newly_all : (s : Sheet) (old : List ℕ) → ((p : ℕ) → at old p ≡ 0) → places (λ p. in_force s p && not (ranked old p)) s.clauses ≡ discharged s
+newly_all s old none = ap (λ (f : ℕ → Bool). places f s.clauses) (fun_ext (λ p. and_true (in_force s p) (not (ranked old p)) (not_from_false (ranked old p) (le-ltb 0 (at old p) (omega (arith, none p))))))
 
 -- A state that holds a source's sheet is opened on it once it is ranked and no ban is broken.
-pub opened_from : (st : State) → Stocked st → Ranks (state_sheet st) (vec_items st.rank) → satisfiable (state_sheet st) ≡ true → (n : ℕ) → n ≡ discharged (state_sheet st)
-    → (s : Sheet) (t : Tables) → st.tables ≡ t → Holds s t → (m : ℕ) → st.opened ≡ m → m ≡ vec_len t.outcomes → vec_items st.marks ≡ []
-    → Good st × Opens s (ok (m ∷ (st.tables.conditions ∷ (n ∷ []))) []) × (state_sheet st ≡ s) × (opened_sheet st ≡ s) × (state_standing st ≡ nothing)
-opened_from st u r k n d s t same h m all count bare =
+pub opened_from : (st₀ st : State) (n : ℕ) → RankedAnew st₀ st n → ((p : ℕ) → at st₀.rank.value p ≡ 0) → vec_items st₀.marks ≡ []
+    → (s : Sheet) → Holds s st₀.tables → st₀.opened ≡ vec_len st₀.tables.outcomes
+    → Good st × Opens s (ok (st₀.opened ∷ (st.tables.conditions ∷ (n ∷ []))) []) × (state_sheet st ≡ s) × (opened_sheet st ≡ s) × (state_standing st ≡ nothing)
+opened_from st₀ st n a none unmarked s h count =
+    let t : Tables = st₀.tables in
+    let same : st.tables ≡ t = a.unmoved.tables in
+    let all : st.opened ≡ st₀.opened = a.unmoved.opened in
+    let bare : vec_items st.marks ≡ [] = ap vec_items a.unmoved.marks ∙ unmarked in
+    let u : Stocked st = a.unmoved.stocked in
+    let d : n ≡ discharged (state_sheet st) = a.discharged ∙ newly_all (state_sheet st) st₀.rank.value none in
     let e : state_sheet st ≡ s = ap held_sheet same ∙ h.sheet in
     let whole : st.opened ≡ vec_len st.tables.outcomes = all ∙ count ∙ sym (ap (λ (x : Tables). vec_len x.outcomes) same) in
     let few : vec_len st.tables.outcomes ≤ 2000 = omega (arith, ap (λ (x : Tables). vec_len x.outcomes) same, h.copied.few_clauses) in
     let short : vec_len st.tables.places ≤ 8000 = omega (arith, ap (λ (x : Tables). vec_len x.places) same, h.copied.few_places) in (
-      record { stocked = u; kept = whole_kept st whole bare u.filled few short; ranked = r; unbroken = k },
-      opens_ok s m st.tables.conditions n h.copied.sheet_clauses h.copied.sheet_literals
-          (sym (ap satisfiable e) ∙ k)
+      record { stocked = u; kept = whole_kept st whole bare u.filled few short; ranked = a.ranked; unbroken = a.unbroken },
+      opens_ok s st₀.opened st.tables.conditions n h.copied.sheet_clauses h.copied.sheet_literals
+          (sym (ap satisfiable e) ∙ a.unbroken)
           (sym all ∙ whole ∙ st.tables.outcomes.ok.0 ∙ sym (length_clauses (held_rows st.tables)) ∙ ap (λ (x : Sheet). length x.clauses) e)
           (ap (λ (x : Sheet). x.top) e)
           (d ∙ ap discharged e),
@@ -199,24 +191,17 @@ opened_from st u r k n d s t same h m all count bare =
       nothing_stands st whole bare,
     )
 
--- What propagation asks of the rows that are lent to it, and what it says of them, it says of the state.
-module _ (st : State) (s : Stocked st) (t : Rows) (e : t ≡ held_rows st.tables) where
-  pub lent_rows : LawfulRows 1001 t
-  lent_rows = subst (LawfulRows 1001) (sym e) (stocked_rows st s)
-
-  pub lent_few : (length t.outs ≤ 2256) × (length t.places ≤ 8256)
-  lent_few =
-      let a : length t.outs ≡ length (vec_items st.tables.outcomes) = ap (λ (x : Rows). length x.outs) e in
-      let b : length t.places ≡ length (vec_items st.tables.places) = ap (λ (x : Rows). length x.places) e in
-      (omega (arith, a, st.tables.outcomes.ok.0, s.few_clauses), omega (arith, b, st.tables.places.ok.0, s.few_places))
-
-  lent_lawful : Lawful (sheet_in st.tables.conditions t)
-  lent_lawful = subst (λ (x : Rows). Lawful (sheet_in st.tables.conditions x)) (sym e) (stocked_lawful st s)
-
-  pub lent_ranks : (rank : List ℕ) → ((top : ℕ) → Lawful (sheet_in top t) → Ranks (sheet_in top t) rank) → Ranks (state_sheet st) rank
-  lent_ranks rank h = subst (λ (x : Rows). Ranks (sheet_in st.tables.conditions x) rank) e (h st.tables.conditions lent_lawful)
-
-  pub lent_says : (P : Sheet → Type 0) (rank table : List ℕ) → rank ≡ table → Ranks (state_sheet st) table → ((top : ℕ) → Lawful (sheet_in top t) → Ranks (sheet_in top t) rank → P (sheet_in top t)) → P (state_sheet st)
-  lent_says P rank table f r h =
-      let top : ℕ = st.tables.conditions in
-      subst (λ (x : Rows). P (sheet_in top x)) e (h top lent_lawful (subst₂ (λ (x : Rows) (y : List ℕ). Ranks (sheet_in top x) y) (sym e) (sym f) r))
+-- it is refused with the lowest broken ban
+pub opened_broken : (st₀ st : State) (e : Refusal) → Settled st₀ st (Err e) → (s : Sheet) → Holds s st₀.tables → Opens s (refusal e)
+opened_broken st₀ st e broken s h =
+    let by_ban = broken.2 in
+    let same : state_sheet st ≡ s = ap held_sheet by_ban.unmoved.tables ∙ h.sheet in
+    let few : length s.clauses ≤ 2000 = h.copied.sheet_clauses in
+    let short : literals s.clauses ≤ 8000 = h.copied.sheet_literals in
+    inr (
+      ⊎_elim (λ l. omega arith) (λ l. omega arith),
+      inl (
+        sym (ap satisfiable same) ∙ by_ban.broken,
+        ap refusal broken.1 ∙ ap (λ (b : ℕ). refusal (Contradiction b)) (by_ban.lowest ∙ ap lowest_broken same),
+      ),
+    )

@@ -1,5 +1,8 @@
 -- The table of owners, one clause more.
-use Rattle.std.proofs.Common.{◌≡◌, ℕ, zero, suc, ◌+◌, ◌-◌, ◌<◌, ◌≤◌, List, length, sym, ap, ◌∙◌, ⊎_elim, arith}
+use Rattle.std.proofs.Common.{◌≡◌, ℕ, zero, suc, ◌+◌, ◌-◌, ◌<◌, ◌≤◌, List, length, drop, sym, ap, ◌∙◌, ⊎_elim, arith}
+use borrow.Rule.Slice.PartMut.{put_mid}
+use Rattle.std.proofs.lemmas.Slice.{between-put_mid, take-put_mid_below}
+use Rattle.std.proofs.lemmas.List.{get_or-take, get_or-drop}
 use Rattle.std.proofs.lemmas.Bool.{cases_lt}
 use Rattle.round.specs.Rows.{at, Rows, Filled}
 use Rattle.round.specs.Occurrences.{Owned}
@@ -36,3 +39,17 @@ pub owned_all : (t : Rows) → Filled t → (c : ℕ) (owner : List ℕ) → c �
 owned_all t w c owner e o =
     let o₁ : Owned t (length t.outs) (at t.starts (length t.outs)) owner = rw e at o in
     rw w.ends at o₁
+
+-- a part of a table that was filled with c
+module _ (owner part : List ℕ) (a e c : ℕ) (inside : a ≤ length owner) (size : length part ≡ e - a) (filled : (k : ℕ) → k < e - a → at part k ≡ c) where
+  pub filled_inside : (j : ℕ) → a ≤ j → j < e → at (put_mid a (e - a) owner part) j ≡ c
+  filled_inside j h l =
+      let owner' : List ℕ = put_mid a (e - a) owner part in
+      let m : j ≡ a + (j - a) = omega arith in
+      ap (at owner') m ∙ sym (get_or-drop a owner' (j - a) 0) ∙ sym (get_or-take (e - a) (drop a owner') (j - a) 0 (omega arith))
+      ∙ ap (λ (xs : List ℕ). at xs (j - a)) (between-put_mid a (e - a) owner part e inside size) ∙ filled (j - a) (omega arith)
+
+  pub filled_before : (j : ℕ) → j < a → at (put_mid a (e - a) owner part) j ≡ at owner j
+  filled_before j l =
+      sym (get_or-take a (put_mid a (e - a) owner part) j 0 l)
+      ∙ ap (λ (xs : List ℕ). at xs j) (take-put_mid_below a (e - a) owner part a (omega arith) inside) ∙ get_or-take a owner j 0 l

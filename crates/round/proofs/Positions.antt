@@ -62,8 +62,6 @@ stocked_at st u f h k w = record {
   usable = u;
   filled = f;
   few_conditions = h;
-  few_clauses = omega (arith, k.few_opened, k.few_filings);
-  few_places = omega (arith, room_places st f k, k.few_filings, k.opened_clauses);
   lawfully = (lawful_tested (state_sheet st)).1 w;
 }
 

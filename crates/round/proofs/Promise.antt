@@ -12,7 +12,6 @@ use Rattle.round.specs.Calls.{Call, fact, ban, mark, withdraw, ask, roll, explai
 use Rattle.round.specs.Runs.{Answers, Run, standing_sheet, next_sheet}
 use Rattle.round.specs.Exact.{Unsatisfiable, Entails, Contradicts, bit_of}
 use Rattle.round.specs.Promise.{Reports, ShortestExplanation, Promise, OpeningPromised}
-use Rattle.round.specs.Good.{good}
 use Rattle.round.specs.Sound.{position, round_is, round_lawful, PromiseKept}
 use Rattle.round.proofs.Alike.{withdraws_alike}
 use Rattle.round.proofs.Choosing.{ok_refused, same_bit, first_number}
@@ -170,5 +169,5 @@ opening_promised s w a r = record { contradicts = opening_contradicts s w a r; n
 pub promise_kept : PromiseKept
 promise_kept r = promised (position r).sheet (sound_take (position r).sheet (position r).standing.filings 0 record {
   lawful = subst Lawful (sym (round_is r)) (round_lawful r).lawful;
-  satisfied = ap satisfiable (round_is r) ∙ (good r.state r.ok).unbroken;
+  satisfied = ap satisfiable (round_is r) ∙ r.ok.unbroken;
 })

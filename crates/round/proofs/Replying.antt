@@ -35,11 +35,6 @@ rolls_ok s n m after rest space en ea =
     let written : take w after ≡ roll_words (in_force s) s.top = ap (take w) ea ∙ take_at (roll_words (in_force s) s.top) rest w (length_words (up_to s.top (in_force s)) w) in
     inr (λ h. omega arith, ap₂ (λ (x : ℕ) (ws : List ℕ). ok (x ∷ []) ws) en written)
 
--- an opening leaves the sheet that its answer says
-pub opened_left : (r : Result Opened Refusal) (s : Sheet) → opened (opening_answer r) s ≡ sheet_left r s
-opened_left (Ok o) s = refl
-opened_left (Err e) s = refl
-
 -- an explain leaves what stands, whatever it answers
 pub explain_leaves : (st : Standing) (p n : ℕ) (a : Answer) → after st (explain p n) a ≡ st
 explain_leaves st p n (ok ns written) = refl

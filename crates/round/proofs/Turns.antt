@@ -1,5 +1,5 @@
 -- The steps from place to place, from condition to condition and from level to level.
-use Rattle.std.proofs.Common.{◌≡◌, ℕ, ◌+◌, ◌-◌, ◌<◌, ◌≤◌, ◌⊎◌, List, length, set, sym, refl, ap, ◌∙◌, arith}
+use Rattle.std.proofs.Common.{◌≡◌, ℕ, ◌+◌, ◌-◌, ◌<◌, ◌≤◌, ◌⊎◌, List, [], length, set, sym, refl, ap, ◌∙◌, subst, arith}
 use Rattle.std.proofs.lemmas.Bool.{cases_lt, cases_eq}
 use Rattle.round.specs.Rows.{at, Rows, LawfulRows}
 use Rattle.round.specs.Occurrences.{Chained}
@@ -126,8 +126,8 @@ queued_step l q = record {
 }
 
 -- the start
-pub queued_none : (t : Rows) (rank queue : List ℕ) → ((p : ℕ) → at rank p ≡ 0) → Queued t rank queue 0 0 0 0
-queued_none t rank queue h = record {
+queued_none : (t : Rows) (rank : List ℕ) → ((p : ℕ) → at rank p ≡ 0) → Queued t rank [] 0 0 0 0
+queued_none t rank h = record {
   room = omega (arith, zeros_le rank);
   order = (omega arith, omega arith);
   ranked = λ i l. absurd (omega arith);
@@ -138,8 +138,8 @@ queued_none t rank queue h = record {
   founded = λ p l. absurd (omega (arith, h p));
 }
 
-pub counted_none : (t : Rows) (rank queue count : List ℕ) → Counted t 0 rank queue count 0 0 0 0 0 0
-counted_none t rank queue count = record {
+counted_none : (t : Rows) (rank count : List ℕ) → Counted t 0 rank [] count 0 0 0 0 0 0
+counted_none t rank count = record {
   pending = λ _. 1;
   counts = λ c h. absurd (omega arith);
   discharged = λ j h z. absurd (omega arith);
@@ -151,6 +151,12 @@ counted_none t rank queue count = record {
   distinct = λ i k a b z. omega arith;
   closed = λ c h. absurd (omega arith);
 }
+
+pub none_queued : (t : Rows) (rank queue : List ℕ) → ((p : ℕ) → at rank p ≡ 0) → queue ≡ [] → Queued t rank queue 0 0 (length queue) 0
+none_queued t rank queue h e = subst (λ (q : List ℕ). Queued t rank q 0 0 (length q) 0) (sym e) (queued_none t rank h)
+
+pub none_counted : (t : Rows) (rank queue count : List ℕ) → queue ≡ [] → Counted t 0 rank queue count 0 0 (length queue) 0 0 0
+none_counted t rank queue count e = subst (λ (q : List ℕ). Counted t 0 rank q count 0 0 (length q) 0 0 0) (sym e) (counted_none t rank count)
 
 -- one clause more has its counter
 pub counted_more : {n : ℕ} {t : Rows} {rank queue count : List ℕ} {tail : ℕ} → LawfulRows n t → (c : ℕ) → c < length t.outs → length t.outs ≤ length count

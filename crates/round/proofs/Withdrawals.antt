@@ -14,15 +14,18 @@ use Rattle.round.specs.declared.state.State.{State}
 use Rattle.round.proofs.Filings.{Sound, sound_take}
 use Rattle.round.proofs.Positions.{filings_count, good_sound, stocked_at, Shrunk, shrunk_sheet, shrunk_filings, shrunk_kept}
 
--- a mark as it was read
-module _ (st : State) (m n : ℕ) (k : Kept st) (low : 1 ≤ m) (high : m ≤ vec_len st.marks) (e : n ≡ get_or (vec_items st.marks) (m - 1) n) where
-  pub stood_read : n ≡ at (vec_items st.marks) (m - 1)
-  stood_read = get_or_read_under (vec_items st.marks) (m - 1) (vec_len st.marks) n 0 e (omega arith) st.marks.ok.0
+-- a mark that stands, as it was read
+pub record Stood (st : State) (m n : ℕ) : Type 0 where
+  pub low : 1 ≤ m
+  pub high : m ≤ vec_len st.marks
+  pub read : n ≡ at (vec_items st.marks) (m - 1)
 
-  pub stood_within : st.opened + n ≤ vec_len st.tables.outcomes
-  stood_within = omega (arith, stood_read, k.marks_stand (m - 1) (omega arith))
+pub stood : (st : State) (m n : ℕ) → (m ≡ 0 → ⊥) → m ≤ vec_len st.marks → n ≡ get_or (vec_items st.marks) (m - 1) n → Stood st m n
+stood st m n some high e =
+    let low : 1 ≤ m = omega arith in
+    record { low = low; high = high; read = get_or_read_under (vec_items st.marks) (m - 1) (vec_len st.marks) n 0 e (omega arith) st.marks.ok.0 }
 
-module _ (st st' : State) (m n : ℕ) (g : Good st) (low : 1 ≤ m) (high : m ≤ vec_len st.marks) (stood : n ≡ at (vec_items st.marks) (m - 1))
+module _ (st st' : State) (m n : ℕ) (g : Good st) (s : Stood st m n)
     (opened : st'.opened ≡ st.opened) (cut : Cut st.tables st'.tables (st.opened + n)) (marks : vec_items st'.marks ≡ take (m - 1) (vec_items st.marks)) where
   len : vec_len st'.marks ≤ m - 1
   len = omega (arith, st'.marks.ok.0, ap length marks, length-take (m - 1) (vec_items st.marks))
@@ -37,10 +40,10 @@ module _ (st st' : State) (m n : ℕ) (g : Good st) (low : 1 ≤ m) (high : m �
     clauses = cut.clauses;
     starts = cut.starts;
     count = cut.clauses_count;
-    enough = omega (arith, stood, g.kept.marks_stand (m - 1) (omega arith));
+    enough = omega (arith, s.read, g.kept.marks_stand (m - 1) (omega (arith, s.low, s.high)));
     few_marks = omega (arith, len, g.kept.few_marks);
     marks_rise = λ i j l h. omega (arith, at_mark i (omega arith), at_mark j h, g.kept.marks_rise i j l (omega (arith, len)));
-    marks_stand = λ i h. omega (arith, at_mark i h, stood, g.kept.marks_rise i (m - 1) (omega (arith, len)) (omega arith));
+    marks_stand = λ i h. omega (arith, at_mark i h, s.read, g.kept.marks_rise i (m - 1) (omega (arith, len)) (omega (arith, s.low, s.high)));
   }
 
   pub withdrawn_kept : Kept st'
@@ -59,10 +62,10 @@ module _ (st st' : State) (m n : ℕ) (g : Good st) (low : 1 ≤ m) (high : m �
 
   pub withdraw_step : (k : ℕ) → k ≡ vec_len st.tables.outcomes - (st.opened + n) → Step (state_position st) (withdraw m) (ok (k ∷ []) []) (state_position st')
   withdraw_step k e =
-      let gone : k ≡ length (state_standing st).filings - at (vec_items st.marks) (m - 1) = omega (arith, e, stood, filings_count st) in
+      let gone : k ≡ length (state_standing st).filings - at (vec_items st.marks) (m - 1) = omega (arith, e, s.read, filings_count st) in
       record {
-        answers = inr (⊎_elim (λ h. omega arith) (λ h. omega (arith, st.marks.ok.0)), ap (λ (x : ℕ). ok (x ∷ []) []) gone);
+        answers = inr (⊎_elim (λ h. omega (arith, s.low)) (λ h. omega (arith, s.high, st.marks.ok.0)), ap (λ (x : ℕ). ok (x ∷ []) []) gone);
         sheet = shrunk_sheet st st' n shrunk;
         stands = ap₂ {C = Standing} (λ (fs : List Filing) (ms : List ℕ). record { filings = fs; marks = ms })
-            (shrunk_filings st st' n shrunk ∙ ap (λ (x : ℕ). take x (state_standing st).filings) stood) marks;
+            (shrunk_filings st st' n shrunk ∙ ap (λ (x : ℕ). take x (state_standing st).filings) s.read) marks;
       }

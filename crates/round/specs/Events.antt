@@ -11,8 +11,8 @@ use Rattle.round.specs.declared.refusals.Filed.{Filed as FiledNumbers}
 use Rattle.round.specs.declared.refusals.Explained.{Explained as ExplainedNumbers}
 use Rattle.round.specs.declared.runs.Call.{Call}
 use Rattle.round.specs.declared.runs.Call.TheVariants.{Fact, Ban, Mark, Withdraw, Ask, Roll, Explain}
-use Rattle.round.specs.declared.runs.Reply.{Reply}
-use Rattle.round.specs.declared.runs.Reply.TheVariants.{Filed, Banned, Marked, Withdrawn, Asked, Rolled, Explained, Refused}
+use Rattle.round.specs.declared.runs.Answered.{Answered}
+use Rattle.round.specs.declared.runs.Answered.TheVariants.{Filed, Banned, Marked, Withdrawn, Asked, Rolled, Explained}
 use Rattle.round.specs.declared.runs.Event.{Event}
 
 abbrev pub call_of : Call → SpecCall
@@ -24,37 +24,40 @@ call_of (Ask p) = ask p
 call_of (Roll n) = roll n
 call_of (Explain p n) = explain p n
 
-abbrev pub reply_answer : Reply → Answer
-reply_answer (Filed f) = ok (f.number ∷ (f.discharged ∷ [])) []
-reply_answer (Banned n) = ok (n ∷ []) []
-reply_answer (Marked n) = ok (n ∷ []) []
-reply_answer (Withdrawn n) = ok (n ∷ []) []
-reply_answer (Asked b) = ok (cond b 1 0 ∷ []) []
-reply_answer (Rolled n words) = ok (n ∷ []) (vec_items words)
-reply_answer (Explained x steps) = ok (x.length ∷ (x.steps ∷ [])) (vec_items steps)
-reply_answer (Refused e) = refusal e
+abbrev pub answered : Answered → Answer
+answered (Filed f) = ok (f.number ∷ (f.discharged ∷ [])) []
+answered (Banned n) = ok (n ∷ []) []
+answered (Marked n) = ok (n ∷ []) []
+answered (Withdrawn n) = ok (n ∷ []) []
+answered (Asked b) = ok (cond b 1 0 ∷ []) []
+answered (Rolled n words) = ok (n ∷ []) (vec_items words)
+answered (Explained x steps) = ok (x.length ∷ (x.steps ∷ [])) (vec_items steps)
+
+abbrev pub reply_answer : Result Answered Refusal → Answer
+reply_answer (Ok a) = answered a
+reply_answer (Err e) = refusal e
 
 abbrev pub event_of : Event → SpecEvent
 event_of e = event (call_of e.call) (reply_answer e.reply)
 
 -- The reply is the one for an accepted call of its kind, or a refusal.
-pub data Suits : Call → Reply → Type 0 where
-  to_fact : (p : ℕ) (f : FiledNumbers) → Suits (Fact p) (Filed f)
-  to_ban : (p n : ℕ) → Suits (Ban p) (Banned n)
-  to_mark : (n : ℕ) → Suits Mark (Marked n)
-  to_withdraw : (m n : ℕ) → Suits (Withdraw m) (Withdrawn n)
-  to_ask : (p : ℕ) (b : Bool) → Suits (Ask p) (Asked b)
-  to_roll : (k n : ℕ) (words : Vec ℕ Global) → Suits (Roll k) (Rolled n words)
-  to_explain : (p k : ℕ) (x : ExplainedNumbers) (steps : Vec ℕ Global) → Suits (Explain p k) (Explained x steps)
-  to_any : (c : Call) (e : Refusal) → Suits c (Refused e)
+pub data Suits : Call → Result Answered Refusal → Type 0 where
+  to_fact : (p : ℕ) (f : FiledNumbers) → Suits (Fact p) (Ok (Filed f))
+  to_ban : (p n : ℕ) → Suits (Ban p) (Ok (Banned n))
+  to_mark : (n : ℕ) → Suits Mark (Ok (Marked n))
+  to_withdraw : (m n : ℕ) → Suits (Withdraw m) (Ok (Withdrawn n))
+  to_ask : (p : ℕ) (b : Bool) → Suits (Ask p) (Ok (Asked b))
+  to_roll : (k n : ℕ) (words : Vec ℕ Global) → Suits (Roll k) (Ok (Rolled n words))
+  to_explain : (p k : ℕ) (x : ExplainedNumbers) (steps : Vec ℕ Global) → Suits (Explain p k) (Ok (Explained x steps))
+  to_any : (c : Call) (e : Refusal) → Suits c (Err e)
 
 -- One call on a round: its reply, and the position that it leaves.
-pub record Replies (before : Position) (c : Call) (r : Reply) (next : Position) : Type 0 where
+pub record Replies (before : Position) (c : Call) (r : Result Answered Refusal) (next : Position) : Type 0 where
   pub step : Step before (call_of c) (reply_answer r) next
   pub suits : Suits c r
 
 -- One call, which may find no memory for what it writes: then it is not made.
-abbrev pub Makes : Position → Call → Result Reply AllocError → Position → Type 0
+abbrev pub Makes : Position → Call → Result (Result Answered Refusal) AllocError → Position → Type 0
 Makes before c (Ok r) next = Replies before c r next
 Makes before c (Err e) next = next ≡ before
 

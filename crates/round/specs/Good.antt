@@ -1,22 +1,20 @@
 -- What holds of every round.
-use Rattle.std.specs.Prelude.{◌≡◌, ℕ, ◌+◌, ◌<◌, ◌≤◌, Bool, true, false, not, ◌&&◌, List, map, length, take, drop, Some, None, Ok, Err, vec_items, vec_len, vec_capacity, Option, Result, ◌==◌, slice_index}
+use Rattle.std.specs.Prelude.{◌≡◌, ℕ, ◌+◌, ◌<◌, ◌≤◌, Bool, true, false, not, ◌&&◌, List, [], map, length, take, drop, Some, None, Ok, Err, vec_items, vec_len, vec_capacity, Option, Result, ◌==◌, slice_index}
 use Rattle.std.proofs.Math.Bool.{Bool-set}
 use mathlib.Core.HLevel.{Π_prop}
-use Rattle.std.proofs.Math.Logic.{∥∥₁_elim}
 use Rattle.std.proofs.Math.Bridge.{le_prop}
-use Rattle.std.proofs.Math.Nat.{ℕ_set}
 use Rattle.horn.specs.Sheets.{Sheet, Clause, all_of, outcome_size}
 use Rattle.horn.specs.Levels.{in_force}
 use Rattle.horn.specs.Bans.{lowest_broken, places}
 use Rattle.horn.specs.Lawfulness.{lawful, satisfiable}
 use Rattle.round.specs.Calls.{Filing, of_fact, of_ban, Standing}
 use Rattle.round.specs.Runs.{Position}
-use Rattle.round.specs.Rows.{at, Rows, Filled}
-use Rattle.round.specs.Ranks.{Ranks, ranked as has_rank}
-use Rattle.round.specs.Scratch.{Ready}
-use Rattle.round.specs.Held.{held_rows, held_sheet, Roomy}
-use Rattle.round.specs.declared.propagation.scratch.Scratch.{Scratch}
-use Rattle.round.specs.declared.tables.Tables.{Tables}
+use Rattle.round.specs.Rows.{at, Filled}
+use Rattle.round.specs.Ranks.{Ranks, ranks_prop, ranked as has_rank}
+use Rattle.round.specs.Lent.{filled_prop}
+use Rattle.round.specs.Held.{held_rows, held_sheet}
+use Rattle.round.specs.declared.refusals.Refusal.{Refusal}
+use Rattle.round.specs.declared.refusals.Refusal.TheVariants.{Contradiction}
 use Rattle.round.specs.declared.state.State.{State}
 
 -- the sheet of a state: the clauses that it was opened on, then the filings
@@ -46,22 +44,22 @@ state_standing st = record { filings = map filing_of (drop st.opened (state_shee
 abbrev pub state_position : State → Position
 state_position st = record { sheet = opened_sheet st; standing = state_standing st }
 
--- All memory that a round can want is there, whatever it holds.
+-- All memory that a round can want is there, whatever it holds: its tables' by their type, and that of the marks.
 pub record Usable (st : State) : Type 0 where
-  pub roomy : Roomy st.tables
-  pub ranks : vec_len st.rank ≡ 1001
-  pub spares : vec_len st.spare ≡ 1001
-  pub choices : vec_len st.chosen ≡ 1001
-  pub ready : Ready st.scratch
   pub mark_room : 32 ≤ vec_capacity st.marks
 
--- The tables hold a lawful sheet within the limits.
+-- No condition has a rank, no mark stands, and no clause counts as opened.
+pub record Bare (st : State) : Type 0 where
+  pub usable : Usable st
+  pub opened : st.opened ≡ 0
+  pub marks : vec_items st.marks ≡ []
+  pub unranked : (p : ℕ) → at st.rank.value p ≡ 0
+
+-- The tables hold a lawful sheet; by their type it is within the limits.
 pub record Stocked (st : State) : Type 0 where
   pub usable : Usable st
   pub filled : Filled (held_rows st.tables)
   pub few_conditions : st.tables.conditions ≤ 1000
-  pub few_clauses : vec_len st.tables.outcomes ≤ 2256
-  pub few_places : vec_len st.tables.places ≤ 8256
   pub lawfully : lawful (state_sheet st) ≡ true
 
 -- The clauses past those that were opened are filings, at most 256; there are at most 32 marks, and each has the number of filings that stood when it
@@ -81,7 +79,7 @@ pub record Kept (st : State) : Type 0 where
 pub record Good (st : State) : Type 0 where
   pub stocked : Stocked st
   pub kept : Kept st
-  pub ranked : Ranks (state_sheet st) (vec_items st.rank)
+  pub ranked : Ranks (state_sheet st) (st.rank.value)
   pub unbroken : satisfiable (state_sheet st) ≡ true
 
 -- The clauses and marks stay as they were; the ranks may change.
@@ -94,9 +92,9 @@ pub record Unmoved (st st' : State) : Type 0 where
 -- The conditions have their ranks, and no ban is broken; n body places hold a condition that has a rank now and had none.
 pub record RankedAnew (st st' : State) (n : ℕ) : Type 0 where
   pub unmoved : Unmoved st st'
-  pub ranked : Ranks (state_sheet st') (vec_items st'.rank)
+  pub ranked : Ranks (state_sheet st') (st'.rank.value)
   pub unbroken : satisfiable (state_sheet st') ≡ true
-  pub discharged : n ≡ places (λ p. in_force (state_sheet st') p && not (has_rank (vec_items st.rank) p)) (state_sheet st').clauses
+  pub discharged : n ≡ places (λ p. in_force (state_sheet st') p && not (has_rank (st.rank.value) p)) (state_sheet st').clauses
 
 -- No choice satisfies the clauses, and the ranks are the old ones; b is the lowest broken ban.
 pub record BrokenBy (st st' : State) (b : ℕ) : Type 0 where
@@ -106,43 +104,14 @@ pub record BrokenBy (st st' : State) (b : ℕ) : Type 0 where
   pub lowest : b ≡ lowest_broken (state_sheet st')
 
 -- the conditions are ranked anew, or a ban is broken
-abbrev pub Settled : State → State → Result ℕ ℕ → Type 0
+abbrev pub Settled : State → State → Result ℕ Refusal → Type 0
 Settled st st' (Ok n) = RankedAnew st st' n
-Settled st st' (Err b) = BrokenBy st st' b
+Settled st st' (Err e) = (b : ℕ) × (e ≡ Contradiction b) × BrokenBy st st' b
 
 -- Each of these facts has one proof at most.
-roomy_prop : (t : Tables) → IsProp (Roomy t)
-roomy_prop t = λ p q i. record {
-  outcome_room = le_prop p.outcome_room q.outcome_room i;
-  start_room = le_prop p.start_room q.start_room i;
-  place_room = le_prop p.place_room q.place_room i;
-}
-
-ready_prop : (s : Scratch) → IsProp (Ready s)
-ready_prop s = λ p q i. record {
-  queue = ℕ_set _ _ p.queue q.queue i;
-  first = ℕ_set _ _ p.first q.first i;
-  next = ℕ_set _ _ p.next q.next i;
-  owner = ℕ_set _ _ p.owner q.owner i;
-  count = ℕ_set _ _ p.count q.count i;
-}
-
 usable_prop : (st : State) → IsProp (Usable st)
 usable_prop st = λ p q i. record {
-  roomy = roomy_prop st.tables p.roomy q.roomy i;
-  ranks = ℕ_set _ _ p.ranks q.ranks i;
-  spares = ℕ_set _ _ p.spares q.spares i;
-  choices = ℕ_set _ _ p.choices q.choices i;
-  ready = ready_prop st.scratch p.ready q.ready i;
   mark_room = le_prop p.mark_room q.mark_room i;
-}
-
-filled_prop : (t : Rows) → IsProp (Filled t)
-filled_prop t = λ p q i. record {
-  counted = ℕ_set _ _ p.counted q.counted i;
-  begins = ℕ_set _ _ p.begins q.begins i;
-  rising = Π_prop (λ c. Π_prop (λ _. le_prop)) p.rising q.rising i;
-  ends = ℕ_set _ _ p.ends q.ends i;
 }
 
 stocked_prop : (st : State) → IsProp (Stocked st)
@@ -150,8 +119,6 @@ stocked_prop st = λ p q i. record {
   usable = usable_prop st p.usable q.usable i;
   filled = filled_prop (held_rows st.tables) p.filled q.filled i;
   few_conditions = le_prop p.few_conditions q.few_conditions i;
-  few_clauses = le_prop p.few_clauses q.few_clauses i;
-  few_places = le_prop p.few_places q.few_places i;
   lawfully = Bool-set _ _ p.lawfully q.lawfully i;
 }
 
@@ -167,14 +134,10 @@ kept_prop st = λ p q i. record {
   marks_stand = Π_prop (λ a. Π_prop (λ _. le_prop)) p.marks_stand q.marks_stand i;
 }
 
-good_prop : (st : State) → IsProp (Good st)
+pub good_prop : (st : State) → IsProp (Good st)
 good_prop st = λ p q i. record {
   stocked = stocked_prop st p.stocked q.stocked i;
   kept = kept_prop st p.kept q.kept i;
-  ranked = Π_prop (λ k. Π_prop (λ _. ℕ_set _ _)) p.ranked q.ranked i;
+  ranked = ranks_prop (state_sheet st) st.rank.value p.ranked q.ranked i;
   unbroken = Bool-set _ _ p.unbroken q.unbroken i;
 }
-
--- the facts of a round, taken out
-pub good : (st : State) → ∥ Good st ∥₁ → Good st
-good st h = ∥∥₁_elim h (good_prop st) (λ g. g)

@@ -1,9 +1,9 @@
 -- What the tables of a round hold.
-use Rattle.std.specs.Prelude.{◌≡◌, ℕ, ◌+◌, ◌≤◌, List, [], ◌∷◌, ◌++◌, length, take, vec_items, vec_len, vec_capacity, Option}
+use Rattle.std.specs.Prelude.{◌≡◌, ℕ, ◌+◌, ◌≤◌, List, [], ◌∷◌, ◌++◌, length, take, vec_items, vec_len, Option}
 use Rattle.std.specs.Option.{option_map}
 use Rattle.horn.specs.Sheets.{Sheet, clause_at, empty_sheet, literals}
 use Rattle.round.specs.Rows.{at, Rows, rows, sheet_in, kept_outcome, Filled}
-use Rattle.round.specs.Writing.{Writing, unfinished}
+use Rattle.round.specs.Writing.{unfinished}
 use Rattle.round.specs.declared.tables.Tables.{Tables}
 
 abbrev pub held_rows : Tables → Rows
@@ -13,35 +13,26 @@ held_rows t = rows (vec_items t.outcomes) (vec_items t.starts) (vec_items t.plac
 abbrev pub held_sheet : Tables → Sheet
 held_sheet t = sheet_in t.conditions (held_rows t)
 
--- Memory is reserved for a whole sheet and 256 clauses more.
-pub record Roomy (t : Tables) : Type 0 where
-  pub outcome_room : 2256 ≤ vec_capacity t.outcomes
-  pub start_room : 2257 ≤ vec_capacity t.starts
-  pub place_room : 8256 ≤ vec_capacity t.places
-
 -- one more place in the body that is being written
 pub record Placed (t t' : Tables) (p : ℕ) : Type 0 where
-  pub writing : Writing (held_rows t')
-  pub roomy : Roomy t'
   pub sheet : held_sheet t' ≡ held_sheet t
   pub body : unfinished (held_rows t') ≡ unfinished (held_rows t) ++ p ∷ []
   pub clauses_count : vec_len t'.outcomes ≡ vec_len t.outcomes
   pub places_count : vec_len t'.places ≡ vec_len t.places + 1
+  pub starts : vec_items t'.starts ≡ vec_items t.starts
 
 -- The clause that was being written is ended, with this outcome.
 pub record Ended (t t' : Tables) (outcome : ℕ) : Type 0 where
-  pub writing : Writing (held_rows t')
-  pub roomy : Roomy t'
   pub conditions : t'.conditions ≡ t.conditions
   pub clauses : (held_sheet t').clauses ≡ (held_sheet t).clauses ++ record { body = unfinished (held_rows t); outcome = kept_outcome outcome } ∷ []
   pub body : unfinished (held_rows t') ≡ []
   pub clauses_count : vec_len t'.outcomes ≡ vec_len t.outcomes + 1
   pub places_count : vec_len t'.places ≡ vec_len t.places
+  pub starts : vec_items t'.starts ≡ vec_items t.starts ++ vec_len t.places ∷ []
 
 -- The first n clauses are kept.
 pub record Cut (t t' : Tables) (n : ℕ) : Type 0 where
   pub filled : Filled (held_rows t')
-  pub roomy : Roomy t'
   pub conditions : t'.conditions ≡ t.conditions
   pub clauses : (held_sheet t').clauses ≡ take n (held_sheet t).clauses
   pub starts : vec_items t'.starts ≡ take (n + 1) (vec_items t.starts)
@@ -55,7 +46,6 @@ body_at s i = option_map (λ c. c.body) (clause_at s i)
 -- tables without clauses and conditions
 pub record Emptied (t : Tables) : Type 0 where
   pub filled : Filled (held_rows t)
-  pub roomy : Roomy t
   pub sheet : held_sheet t ≡ empty_sheet
   pub no_clauses : vec_len t.outcomes ≡ 0
   pub no_places : vec_len t.places ≡ 0
@@ -71,6 +61,5 @@ pub record Copied (s : Sheet) (t : Tables) : Type 0 where
 
 -- The tables hold a sheet within the limits.
 pub record Holds (s : Sheet) (t : Tables) : Type 0 where
-  pub roomy : Roomy t
   pub copied : Copied s t
   pub sheet : held_sheet t ≡ s

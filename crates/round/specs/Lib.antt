@@ -1,7 +1,10 @@
 pub mod Rows
+pub mod Lent
+pub mod Lending
 pub mod Occurrences
 pub mod Ranks
 pub mod Steps
+pub mod Levels
 pub mod Answers
 pub mod Exact
 pub mod Calls
@@ -10,10 +13,11 @@ pub mod Promise
 pub mod Writing
 pub mod Held
 pub mod Replies
+pub mod Refusals
 pub mod Good
+pub mod Filing
 pub mod Sound
 pub mod Determined
 pub mod Events
-pub mod Scratch
 pub mod Examples
 pub mod Needed

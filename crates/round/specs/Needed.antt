@@ -1,10 +1,10 @@
 -- The tables from which an explanation is written.
 use Rattle.std.specs.Prelude.{◌≡◌, ℕ, zero, suc, ◌+◌, ◌<◌, ◌≤◌, Bool, true, false, cond, ◌&&◌, ◌⊎◌, List, [], ◌++◌, length, nat_eq, nat_lt}
 use Rattle.std.specs.List.{AllByRecursion}
-use Rattle.horn.specs.Sheets.{Sheet, Clause, Lawful, all_of, gives}
+use Rattle.horn.specs.Sheets.{Sheet, Clause, all_of, gives}
 use Rattle.horn.specs.Levels.{in_force, rank, chosen, chosen_body, needed, listed}
-use Rattle.round.specs.Rows.{at, Rows, clause_in, sheet_in, LawfulRows}
-use Rattle.round.specs.Ranks.{Ranks, ranked}
+use Rattle.round.specs.Rows.{at, Rows, clause_in}
+use Rattle.round.specs.Ranks.{ranked}
 
 -- the condition has a rank below r
 abbrev pub lower : List ℕ → ℕ → ℕ → Bool
@@ -22,15 +22,6 @@ ChosenFrom t table c picked = (p d : ℕ) → 0 < p → c ≤ d → d < length t
 -- The table has the number of each condition's chosen clause.
 abbrev pub Choices : Sheet → List ℕ → Type 0
 Choices s table = (p : ℕ) → in_force s p ≡ true → at table p ≡ chosen s p
-
--- The rows hold a lawful sheet within the limits, and the table has its ranks.
-pub record RankedRows (top : ℕ) (t : Rows) (table : List ℕ) : Type 0 where
-  pub rows : LawfulRows 1001 t
-  pub lawful : Lawful (sheet_in top t)
-  pub ranks : Ranks (sheet_in top t) table
-  pub size : length table ≡ 1001
-  pub few_conditions : top ≤ 1000
-  pub few_clauses : length t.outs ≤ 2256
 
 -- Marks of what q needs, while they are being made: a mark is the condition's rank. The chosen bodies of the conditions of
 -- rank above d, and of those of rank d up to n, are marked.

@@ -20,5 +20,3 @@ pub record Owned (t : Rows) (m n : ℕ) (owner : List ℕ) : Type 0 where
 pub record Linked (t : Rows) (first next owner : List ℕ) : Type 0 where
   pub chained : Chained (length t.places) t.places first next
   pub owned : Owned t (length t.outs) (length t.places) owner
-  pub nexts : length t.places ≤ length next
-  pub owners : length t.places ≤ length owner

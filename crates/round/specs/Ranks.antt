@@ -1,5 +1,7 @@
 -- Ranks in a table, and what they say of the bans.
 use Rattle.std.specs.Prelude.{◌≡◌, ℕ, ◌<◌, Bool, true, false, List, Some, None, Option, nat_lt}
+use Rattle.std.specs.Coded.{Π_prop}
+use Rattle.std.proofs.Math.Nat.{ℕ_set}
 use Rattle.horn.specs.Sheets.{Sheet}
 use Rattle.horn.specs.Levels.{rank_or_zero}
 use Rattle.horn.specs.Bans.{lowest_broken}
@@ -9,6 +11,9 @@ use Rattle.round.specs.Rows.{at}
 -- The table has each condition's rank, and 0 for a condition that is not in force.
 abbrev pub Ranks : Sheet → List ℕ → Type 0
 Ranks s rank = (p : ℕ) → 0 < p → at rank p ≡ rank_or_zero s p
+
+pub ranks_prop : (s : Sheet) (rank : List ℕ) → IsProp (Ranks s rank)
+ranks_prop s rank = Π_prop (λ p. Π_prop (λ _. ℕ_set _ _))
 
 -- the table has a rank for the condition
 abbrev pub ranked : List ℕ → ℕ → Bool

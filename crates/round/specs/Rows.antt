@@ -2,7 +2,6 @@
 use Rattle.std.specs.Prelude.{◌≡◌, ℕ, zero, suc, ◌+◌, ◌<◌, ◌≤◌, List, map, length, Some, None, Option, slice_index}
 use Rattle.std.specs.List.{between, range_with_len}
 use Rattle.horn.specs.Sheets.{Clause, Sheet}
-use Rattle.round.specs.declared.propagation.rows.ClauseRows.{ClauseRows}
 
 -- what stands at a place of a table, 0 past its end
 abbrev pub at : List ℕ → ℕ → ℕ
@@ -17,10 +16,6 @@ pub record Rows : Type 0 where
 
 abbrev pub rows : List ℕ → List ℕ → List ℕ → Rows
 rows o s p = record { outs = o; starts = s; places = p }
-
--- the rows that are lent
-abbrev pub rows_of : ClauseRows → Rows
-rows_of r = rows r.outcomes.now r.starts.now r.places.now
 
 -- j is a place of the body of clause c
 abbrev pub Body : Rows → ℕ → ℕ → Type 0

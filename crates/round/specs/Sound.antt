@@ -12,7 +12,7 @@ use Rattle.round.specs.Runs.{Position, standing_sheet}
 use Rattle.round.specs.Promise.{Promise}
 use Rattle.round.specs.Rows.{clause_in}
 use Rattle.round.specs.Held.{held_rows}
-use Rattle.round.specs.Good.{Stocked, Kept, good, state_sheet, is_filing, filing_with, filing_of, opened_sheet, state_standing, state_position}
+use Rattle.round.specs.Good.{Stocked, Kept, state_sheet, is_filing, filing_with, filing_of, opened_sheet, state_standing, state_position}
 use Rattle.round.specs.declared.state.State.{State}
 use Rattle.round.specs.declared.sound.Round.{Round}
 
@@ -43,19 +43,19 @@ position_sheet st k =
     (ap (λ (xs : List Clause). take st.opened cs ++ xs) (all_restored (drop st.opened cs) k.filings) ∙ take-append-drop st.opened cs)
 
 pub round_is : (r : Round) → standing_sheet (position r).sheet (position r).standing ≡ round_sheet r
-round_is r = position_sheet r.state (good r.state r.ok).kept
+round_is r = position_sheet r.state r.ok.kept
 
 state_lawful : (st : State) → Stocked st → LawfulSource (state_sheet st)
 state_lawful st g =
     let n = length-map-range_with_len (clause_in (held_rows st.tables)) 0 (length (vec_items st.tables.outcomes)) in
     record {
       few_conditions = g.few_conditions;
-      few_clauses = omega (arith, n, st.tables.outcomes.ok.0, g.few_clauses);
+      few_clauses = omega (arith, n, st.tables.outcomes.ok.0, st.tables.few.0);
       lawful = (lawful_tested (state_sheet st)).0 g.lawfully;
     }
 
 pub round_lawful : (r : Round) → LawfulSource (round_sheet r)
-round_lawful r = state_lawful r.state (good r.state r.ok).stocked
+round_lawful r = state_lawful r.state r.ok.stocked
 
 -- No round exists whose clauses no choice satisfies.
 abbrev pub Satisfied : Type 0

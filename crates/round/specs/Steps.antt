@@ -1,5 +1,5 @@
 -- What holds between the steps of the computation of ranks.
-use Rattle.std.specs.Prelude.{◌≡◌, ℕ, zero, suc, ◌+◌, ◌-◌, ◌<◌, ◌≤◌, ◌⊎◌, List, length, count_by, ◌≢◌, nat_eq, slice_set}
+use Rattle.std.specs.Prelude.{◌≡◌, ℕ, zero, suc, ◌+◌, ◌-◌, ◌<◌, ◌≤◌, ◌⊎◌, List, [], ◌∷◌, ◌++◌, length, count_by, ◌≢◌, nat_eq, slice_set}
 use Rattle.round.specs.Rows.{at, Rows, Body}
 
 -- how many entries of the table are 0
@@ -7,9 +7,13 @@ abbrev pub zeros : List ℕ → ℕ
 zeros xs = count_by (λ x. nat_eq x 0) xs
 
 -- What `enter` does with an outcome o at the rank r: nothing, or it has the rank r and stands at the end of the queue.
-pub record Entered (o r : ℕ) (rank queue : List ℕ) (tail : ℕ) (rank' queue' : List ℕ) (tail' : ℕ) : Type 0 where
-  pub cases : ((tail' ≡ tail) × (rank' ≡ rank) × (queue' ≡ queue) × ((o ≡ 0) ⊎ (0 < at rank o)))
-      ⊎ ((tail' ≡ tail + 1) × (rank' ≡ slice_set rank o r) × (queue' ≡ slice_set queue tail o) × (0 < o) × (at rank o ≡ 0))
+pub record Entered (o r : ℕ) (rank queue rank' queue' : List ℕ) : Type 0 where
+  pub cases : ((rank' ≡ rank) × (queue' ≡ queue) × ((o ≡ 0) ⊎ (0 < at rank o)))
+      ⊎ ((rank' ≡ slice_set rank o r) × (queue' ≡ queue ++ o ∷ []) × (0 < o) × (at rank o ≡ 0))
+
+-- what stood in the queue stands there still
+abbrev pub Extended : List ℕ → List ℕ → Type 0
+Extended queue queue' = (length queue ≤ length queue') × ((i : ℕ) → i < length queue → at queue' i ≡ at queue i)
 
 -- The ranked conditions stand in the queue below tail. Those below `end` have ranks up to `level`, from `head` on just
 -- that; those from `end` on have the next. Each has a clause whose conditions have lower ranks.

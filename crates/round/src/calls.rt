@@ -1,15 +1,15 @@
 // The calls on a round.
-ghost use Rattle.std.specs.Prelude.{◌≡◌, length, take, IfOk};
-ghost use Rattle.horn.specs.Sheets.{empty_sheet};
-ghost use Rattle.horn.specs.Levels.{in_force, explanation};
-ghost use Rattle.round.specs.Answers.{Opens, Asks, Rolls, words_for, opened};
-ghost use Rattle.round.specs.Calls.{fact as fact_call, ban as ban_call, mark as mark_call, withdraw as withdraw_call, ask as ask_call, roll as roll_call, explain as explain_call, nothing};
+ghost use Rattle.std.specs.Prelude.{◌≡◌, length, take, IfOk, IfErr};
+ghost use Rattle.horn.specs.Sheets.{empty_sheet, Condition};
+ghost use Rattle.horn.specs.Levels.{in_force};
+ghost use Rattle.round.specs.Answers.{Opens, Outside, Asks, Rolls, words_for, opened};
+ghost use Rattle.round.specs.Calls.{ask as ask_call, roll as roll_call, nothing};
 ghost use Rattle.round.specs.Promise.{OpeningPromise};
-ghost use Rattle.round.specs.Replies.{opening_answer, fact_answer, number_answer, ask_answer, roll_answer, explain_answer, sheet_left, buffer_left, steps_left};
+ghost use Rattle.round.specs.Replies.{opening_answer, ask_answer, roll_answer, sheet_left, buffer_left};
 ghost use Rattle.round.specs.Runs.{Step};
 ghost use Rattle.round.specs.Sound.{position, round_sheet};
 
-use crate::refusals::{Explained, Filed, Opened, Refusal};
+use crate::refusals::{Opened, Refusal};
 use crate::rolling::{words_for, write_roll};
 use crate::sound::Round;
 use crate::state::State;
@@ -35,35 +35,32 @@ impl Round {
         ensures standing { (position self.new).standing ≡ nothing }
         ensures promise { OpeningPromise (S.Source.sheet source.now) (opening_answer result) }
     {
-        self.state.open(source)
+        self.state.empty();
+        self.state.tables.fill_from(source)?;
+        let clauses = self.state.tables.clauses();
+        self.state.opened = clauses;
+        match self.state.settle() {
+            Ok(discharged) => Ok(Opened {
+                clauses,
+                conditions: self.state.tables.conditions,
+                discharged,
+            }),
+            Err(refusal) => {
+                self.state.empty();
+                Err(refusal)
+            }
+        }
     }
 
-    // Files a fact of condition p.
-    pub fn fact(&mut self, p: u16) -> Result<Filed, Refusal>
-        ensures { Step (position self.old) (fact_call p) (fact_answer result) (position self.new) }
+    // Where condition p stands in the tables.
+    pub(crate) fn condition(&self, p: u16) -> Result<usize, Refusal>
+        ensures within { IfOk result (λ k. (k ≡ p) × Condition (round_sheet self.now) p) }
+        ensures outside { IfErr result (λ e. (e ≡ Refusal.NoCondition) × Outside (round_sheet self.now) p) }
     {
-        self.state.fact(p)
-    }
-
-    // Files a ban of condition p; the answer is its clause number.
-    pub fn ban(&mut self, p: u16) -> Result<u16, Refusal>
-        ensures { Step (position self.old) (ban_call p) (number_answer result) (position self.new) }
-    {
-        self.state.ban(p)
-    }
-
-    // Sets a mark; the answer is its name, the number of marks that stand.
-    pub fn mark(&mut self) -> Result<u16, Refusal>
-        ensures { Step (position self.old) mark_call (number_answer result) (position self.new) }
-    {
-        self.state.mark()
-    }
-
-    // Removes the filings made since mark m was set, that mark and all later ones; the answer is how many filings went.
-    pub fn withdraw(&mut self, m: u16) -> Result<u16, Refusal>
-        ensures { Step (position self.old) (withdraw_call m) (number_answer result) (position self.new) }
-    {
-        self.state.withdraw(m)
+        if p == 0 || p > self.state.tables.conditions {
+            return Err(Refusal::NoCondition);
+        }
+        Ok(p as usize)
     }
 
     // Whether condition p is in force.
@@ -71,10 +68,8 @@ impl Round {
         ensures answer { Asks (round_sheet self.now) p (ask_answer result) }
         ensures step { Step (position self.now) (ask_call p) (ask_answer result) (position self.now) }
     {
-        if p == 0 || p > self.state.tables.conditions {
-            return Err(Refusal::NoCondition);
-        }
-        Ok(self.state.rank[p as usize] > 0)
+        let p = self.condition(p)?;
+        Ok(self.state.rank[p] > 0)
     }
 
     // Writes the set of the conditions in force, one bit each, and answers its size.
@@ -88,13 +83,5 @@ impl Round {
             return Err(Refusal::ShortBuffer);
         }
         Ok(write_roll(&self.state.rank, top, words))
-    }
-
-    // Writes the steps of an explanation of condition p: which clauses put it in force, by the shortest way.
-    pub fn explain(&mut self, p: u16, steps: &mut [u16]) -> Result<Explained, Refusal>
-        ensures step { Step (position self.old) (explain_call p (length steps.old)) (explain_answer result steps.new) (position self.new) }
-        ensures buffer { steps.new ≡ steps_left result (explanation (round_sheet self.old) p) steps.old }
-    {
-        self.state.explain(p, steps)
     }
 }

@@ -10,11 +10,12 @@ mod questions;
 mod refusals;
 mod rolling;
 mod runs;
+mod sizes;
 mod sound;
 mod state;
 mod tables;
 pub mod theorems;
 
 pub use refusals::{Explained, Filed, Opened, Refusal};
-pub use runs::{Call, Event, Reply};
+pub use runs::{Answered, Call, Event, Reply};
 pub use sound::Round;

@@ -1,4 +1,5 @@
 // A list of calls made on a round.
+ghost use Rattle.std.specs.Prelude.{vec_len};
 ghost use Rattle.round.specs.Events.{Replies, Makes, Ran};
 ghost use Rattle.round.specs.Sound.{position};
 
@@ -8,7 +9,7 @@ use crate::sound::Round;
 use std::alloc::{AllocError, Global};
 
 // A call on an opened round.
-#[derive(Clone, Copy)]
+#[derive(Clone, Copy, PartialEq, Eq, Debug)]
 pub enum Call {
     // of a condition
     Fact(u16),
@@ -24,9 +25,9 @@ pub enum Call {
     Explain(u16, u16),
 }
 
-// What a call answered, and what it wrote.
-#[derive(Drop)]
-pub enum Reply {
+// What an accepted call answered, and what it wrote.
+#[derive(PartialEq, Eq, Debug, Drop)]
+pub enum Answered {
     Filed(Filed),
     Banned(u16),
     Marked(u16),
@@ -34,11 +35,13 @@ pub enum Reply {
     Asked(bool),
     Rolled(u16, Vec<u32>),
     Explained(Explained, Vec<u16>),
-    Refused(Refusal),
 }
 
+// What a call answered, or why it was refused.
+pub type Reply = Result<Answered, Refusal>;
+
 // A call and its reply.
-#[derive(Drop)]
+#[derive(PartialEq, Eq, Debug, Drop)]
 pub struct Event {
     pub call: Call,
     pub reply: Reply,
@@ -58,91 +61,36 @@ impl Round {
         Ok(events)
     }
 
-    // Makes one call.
+    // Makes one call. Its buffer is made before: without memory for it the call is not made.
     fn make(&mut self, heap: Global, call: Call) -> Result<Reply, AllocError>
         ensures { Makes (position self.old) call result (position self.new) }
     {
         match call {
-            Call::Fact(p) => Ok(self.make_fact(p)),
-            Call::Ban(p) => Ok(self.make_ban(p)),
-            Call::Mark => Ok(self.make_mark()),
-            Call::Withdraw(m) => Ok(self.make_withdrawal(m)),
-            Call::Ask(p) => Ok(self.make_ask(p)),
-            Call::Roll(n) => self.make_roll(heap, n),
-            Call::Explain(p, n) => self.make_explain(heap, p, n),
+            Call::Fact(p) => Ok(self.fact(p).map(Answered::Filed)),
+            Call::Ban(p) => Ok(self.ban(p).map(Answered::Banned)),
+            Call::Mark => Ok(self.mark().map(Answered::Marked)),
+            Call::Withdraw(m) => Ok(self.withdraw(m).map(Answered::Withdrawn)),
+            Call::Ask(p) => Ok(self.ask(p).map(Answered::Asked)),
+            Call::Roll(n) => Ok(self.roll_into(vec![in heap; 0; n as usize]?)),
+            Call::Explain(p, n) => Ok(self.explain_into(p, vec![in heap; 0; n as usize]?)),
         }
     }
 
-    fn make_fact(&mut self, p: u16) -> Reply
-        ensures { Replies (position self.old) (Call.Fact p) result (position self.new) }
+    // Rolls into a buffer, and answers with the words that were written.
+    fn roll_into(&self, mut words: Vec<u32>) -> Reply
+        ensures { Replies (position self.now) (Call.Roll (vec_len words)) result (position self.now) }
     {
-        match self.fact(p) {
-            Ok(filed) => Reply::Filed(filed),
-            Err(refusal) => Reply::Refused(refusal),
-        }
+        let size = self.roll(&mut words)?;
+        words.truncate(words_for(self.state.tables.conditions));
+        Ok(Answered::Rolled(size, words))
     }
 
-    fn make_ban(&mut self, p: u16) -> Reply
-        ensures { Replies (position self.old) (Call.Ban p) result (position self.new) }
+    // Explains condition p in a buffer, and answers with the steps that were written.
+    fn explain_into(&mut self, p: u16, mut steps: Vec<u16>) -> Reply
+        ensures { Replies (position self.old) (Call.Explain p (vec_len steps)) result (position self.new) }
     {
-        match self.ban(p) {
-            Ok(number) => Reply::Banned(number),
-            Err(refusal) => Reply::Refused(refusal),
-        }
-    }
-
-    fn make_mark(&mut self) -> Reply
-        ensures { Replies (position self.old) Call.Mark result (position self.new) }
-    {
-        match self.mark() {
-            Ok(name) => Reply::Marked(name),
-            Err(refusal) => Reply::Refused(refusal),
-        }
-    }
-
-    fn make_withdrawal(&mut self, m: u16) -> Reply
-        ensures { Replies (position self.old) (Call.Withdraw m) result (position self.new) }
-    {
-        match self.withdraw(m) {
-            Ok(removed) => Reply::Withdrawn(removed),
-            Err(refusal) => Reply::Refused(refusal),
-        }
-    }
-
-    fn make_ask(&self, p: u16) -> Reply
-        ensures { Replies (position self.now) (Call.Ask p) result (position self.now) }
-    {
-        match self.ask(p) {
-            Ok(in_force) => Reply::Asked(in_force),
-            Err(refusal) => Reply::Refused(refusal),
-        }
-    }
-
-    // The buffer is made before the call: without memory for it the call is not made.
-    fn make_roll(&self, heap: Global, n: u16) -> Result<Reply, AllocError>
-        ensures { Makes (position self.now) (Call.Roll n) result (position self.now) }
-    {
-        let mut words = vec![in heap; 0u32; n as usize]?;
-        match self.roll(&mut words) {
-            Ok(size) => {
-                words.truncate(words_for(self.state.tables.conditions));
-                Ok(Reply::Rolled(size, words))
-            }
-            Err(refusal) => Ok(Reply::Refused(refusal)),
-        }
-    }
-
-    // The buffer is made before the call here too.
-    fn make_explain(&mut self, heap: Global, p: u16, n: u16) -> Result<Reply, AllocError>
-        ensures { Makes (position self.old) (Call.Explain p n) result (position self.new) }
-    {
-        let mut steps = vec![in heap; 0u16; n as usize]?;
-        match self.explain(p, &mut steps) {
-            Ok(explained) => {
-                steps.truncate(explained.steps as usize);
-                Ok(Reply::Explained(explained, steps))
-            }
-            Err(refusal) => Ok(Reply::Refused(refusal)),
-        }
+        let explained = self.explain(p, &mut steps)?;
+        steps.truncate(explained.steps as usize);
+        Ok(Answered::Explained(explained, steps))
     }
 }

@@ -1,70 +1,86 @@
 // Where each condition occurs in the bodies.
-ghost use Rattle.std.specs.Prelude.{◌≡◌, ℕ, ◌^◌, ◌<◌, ◌≤◌, length};
+ghost use Rattle.std.specs.Prelude.{◌≡◌, ℕ, ◌<◌, ◌≤◌, length};
+ghost use Rattle.round.specs.Lending.{rows_of};
 ghost use Rattle.round.specs.Occurrences.{Chained, Owned, Linked};
-ghost use Rattle.round.specs.Rows.{at, rows_of, Filled, LawfulRows};
+ghost use Rattle.round.specs.Rows.{at};
 
-use super::{ClauseRows, clear};
+use super::ClauseRows;
+use crate::sizes::{CONDITIONS, PLACES};
+use std::alloc::{AllocError, Global};
 
-// Where each condition occurs, lent: the places of condition p form a chain, from place `first[p] - 1` to `next[place] - 1`
+// Where each condition occurs: the places of condition p form a chain, from place `first[p] - 1` to `next[place] - 1`
 // until 0, and place j is in the body of clause `owner[j]`.
-#[derive(Clone, Copy)]
-pub(super) struct Occurrences<'a> {
-    pub(super) first: &'a [u16],
-    pub(super) next: &'a [u16],
-    pub(super) owner: &'a [u16],
+// The chains stay: places sorted by condition would fill as many tables and need a counting sort, which is no plainer.
+#[derive(Drop)]
+pub(super) struct Occurrences {
+    first: Box<[u16; CONDITIONS]>,
+    next: Box<[u16; PLACES]>,
+    owner: Box<[u16; PLACES]>,
 }
 
-// Chains the places of each condition.
-fn chain(places: &[u16], first: &mut [u16], next: &mut [u16])
-    requires few { length places.now < 2 ^ 16 }
-    requires room { length places.now ≤ length next.old }
-    requires conditions { (j : ℕ) → j < length places.now → at places.now j < length first.old }
-    requires clean { (p : ℕ) → at first.old p ≡ 0 }
-    ensures { Chained (length places.now) places.now first.new next.new }
-{
-    for j in 0..places.len() {
-        let p = places[j] as usize;
-        next[j] = first[p];
-        first[p] = (j + 1) as u16;
+impl Occurrences {
+    pub(super) fn new(heap: Global) -> Result<Occurrences, AllocError> {
+        let first = Box::new(heap, [0u16; CONDITIONS])?;
+        let next = Box::new(heap, [0u16; PLACES])?;
+        let owner = Box::new(heap, [0u16; PLACES])?;
+        Ok(Occurrences { first, next, owner })
     }
 }
 
-// Notes clause c as the owner of its places.
-fn own_body(c: u16, from: usize, end: usize, owner: &mut [u16])
-    requires { end ≤ length owner.old }
-    ensures inside { (j : ℕ) → from ≤ j → j < end → at owner.new j ≡ c }
-    ensures outside { (j : ℕ) → j < from → at owner.new j ≡ at owner.old j }
+// Chains the places of each condition.
+fn chain(places: &[u16], first: &mut [u16; CONDITIONS], next: &mut [u16; PLACES])
+    requires few { length places.now ≤ 8256 }
+    requires conditions { (j : ℕ) → j < length places.now → at places.now j < 1001 }
+    requires clean { (p : ℕ) → at first.old p ≡ 0 }
+    ensures { Chained (length places.now) places.now first.new next.new }
 {
-    for j in from..end {
-        owner[j] = c;
+    for (j, condition) in places.iter().enumerate() {
+        let p = *condition as usize;
+        next[j] = first[p];
+        first[p] = j as u16 + 1;
     }
 }
 
 // Notes each place's clause.
-fn own(clauses: ClauseRows<'_>, owner: &mut [u16])
-    requires filled { Filled (rows_of clauses) }
-    requires few { length clauses.outcomes.now < 2 ^ 16 }
-    requires room { length clauses.places.now ≤ length owner.old }
+fn own(clauses: ClauseRows<'_>, owner: &mut [u16; PLACES])
     ensures { Owned (rows_of clauses.entry) (length clauses.entry.outcomes.now) (length clauses.entry.places.now) owner.new }
 {
-    for c in 0..clauses.outcomes.len() {
-        own_body(
-            c as u16,
-            clauses.starts[c] as usize,
-            clauses.starts[c + 1] as usize,
-            owner,
-        );
+    for c in 0..clauses.len() {
+        owner[clauses.starts[c] as usize..clauses.starts[c + 1] as usize].fill(c as u16);
     }
 }
 
-// Fills the tables of occurrences.
-pub(super) fn link(clauses: ClauseRows<'_>, first: &mut [u16], next: &mut [u16], owner: &mut [u16])
-    requires lawful { LawfulRows (length first.old) (rows_of clauses) }
-    requires few { (length clauses.outcomes.now < 2 ^ 16) × (length clauses.places.now < 2 ^ 16) }
-    requires room { (length clauses.places.now ≤ length next.old) × (length clauses.places.now ≤ length owner.old) }
-    ensures { Linked (rows_of clauses.entry) first.new next.new owner.new }
-{
-    clear(first);
-    chain(clauses.places, first, next);
-    own(clauses, owner);
+impl Occurrences {
+    // Notes where the conditions of these clauses occur.
+    pub(super) fn link(&mut self, clauses: ClauseRows<'_>)
+        ensures { Linked (rows_of clauses.entry) self.new.first.value self.new.next.value self.new.owner.value }
+    {
+        self.first.fill(0);
+        chain(clauses.places, &mut self.first, &mut self.next);
+        own(clauses, &mut self.owner);
+    }
+
+    // One more than the last place of condition p, 0 if it has none.
+    pub(super) fn last(&self, p: u16) -> usize
+        requires { p < 1001 }
+        ensures { result ≡ at self.now.first.value p }
+    {
+        self.first[p as usize] as usize
+    }
+
+    // One more than the place of the same condition before this one, 0 if there is none.
+    pub(super) fn before(&self, place: usize) -> usize
+        requires { place < 8256 }
+        ensures { result ≡ at self.now.next.value place }
+    {
+        self.next[place] as usize
+    }
+
+    // The clause whose body has this place.
+    pub(super) fn clause(&self, place: usize) -> usize
+        requires { place < 8256 }
+        ensures { result ≡ at self.now.owner.value place }
+    {
+        self.owner[place] as usize
+    }
 }

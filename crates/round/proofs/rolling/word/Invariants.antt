@@ -4,4 +4,4 @@ use Rattle.round.specs.Ranks.{ranked}
 use Rattle.round.proofs.rolling.word.Given as goal
 
 abbrev pub invariant-loop-b : goal.invariant-loop-b
-invariant-loop-b l = l.w ≡ bits (up_to l.top (ranked l.rank)) (l.first + l.b) (32 - l.b)
+invariant-loop-b l = l.word ≡ bits (up_to l.top (ranked l.rank)) (l.first + l.b) (32 - l.b)

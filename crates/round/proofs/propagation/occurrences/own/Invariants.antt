@@ -1,4 +1,5 @@
-use Rattle.round.specs.Rows.{at, rows_of}
+use Rattle.round.specs.Rows.{at}
+use Rattle.round.specs.Lending.{rows_of}
 use Rattle.round.specs.Occurrences.{Owned}
 use Rattle.round.proofs.propagation.occurrences.own.Given as goal
 

@@ -3,7 +3,7 @@ use Rattle.horn.specs.Sheets.{Sheet}
 use Rattle.horn.specs.Levels.{in_force}
 use Rattle.round.specs.Answers.{Rolls, ok, words_for, roll_words}
 use Rattle.round.specs.Ranks.{Ranks}
-use Rattle.round.specs.Good.{good, state_sheet}
+use Rattle.round.specs.Good.{state_sheet}
 use Rattle.round.specs.Sound.{round_is}
 use Rattle.round.proofs.Replying.{count_in_force, roll_in_force, rolls_ok}
 use Rattle.round.proofs.sound.Round.roll.Goals as goal
@@ -11,15 +11,15 @@ use Rattle.round.proofs.sound.Round.roll.Goals as goal
 pub write_roll-requires : goal.write_roll-requires
 write_roll-requires c =
     let st = c.args.self.now.state in
-    let g = good st c.args.self.now.ok in
-    record { table = c.deref.ensures.len ∙ g.stocked.usable.ranks; low = g.stocked.few_conditions; space = omega arith }
+    let g = c.args.self.now.ok in
+    record { low = g.stocked.few_conditions; space = omega arith }
 
 pub returns : goal.returns
 returns c =
     let st = c.args.self.now.state in
-    let g = good st c.args.self.now.ok in
+    let g = c.args.self.now.ok in
     let s : Sheet = state_sheet st in
-    let r : Ranks s c.deref.result.now = subst (Ranks s) (sym c.deref.ensures.value) g.ranked in
+    let r : Ranks s c.deref.result.now = subst (Ranks s) (sym c.deref.ensures) g.ranked in
     let rest : List ℕ = drop (words_for s.top) c.args.words.now in
     let n = c.write_roll.ensures.count ∙ count_in_force s c.deref.result.now r in
     let b : c.write_roll.new.words ≡ roll_words (in_force s) s.top ++ rest = c.write_roll.ensures.written ∙ ap (λ (ws : List ℕ). ws ++ rest) (roll_in_force s c.deref.result.now r) in

@@ -14,16 +14,16 @@ pub returns-in_err-reply : goal.returns-in_err-reply
 returns-in_err-reply c =
     let x = err_from_is_err_and c.from_residual-in_err-reply.result c.from_residual-in_err-reply.ensures.1 in
     let l = c.loop-call in
-    rw x.1 (ran_part (position c.args.self.now) (position l.self) (position c.make.new.self) c.args.calls.now l.call-index (vec_items l.events) x.0 l.invariant.0 c.in_err-reply.ensures)
+    rw x.1 (ran_part (position c.args.self.now) (position l.self) (position c.make.new.self) c.args.calls.now l.call-index (vec_items l.events) x.0 l.invariant.replied c.in_err-reply.ensures)
 
 pub loop-call-preserved : goal.loop-call-preserved
 loop-call-preserved c =
     let l = c.loop-call in
-    let done = replied_more (position c.args.self.now) (position l.self) (position c.make.new.self) c.args.calls.now (vec_items l.events) (vec_items c.push_reserved.new.self) l.call-index _ c.in_ok-reply.reply c.loop-call-test.true l.invariant.0 c.in_ok-reply.ensures c.push_reserved.ensures.items in
-    let room : length c.args.calls.now ≤ vec_capacity c.push_reserved.new.self = omega (arith, c.push_reserved.ensures.capacity, l.invariant.2) in
-    (done, c.push_reserved.ensures.len ∙ ap (λ n. n + 1) l.invariant.1, room)
+    let done = replied_more (position c.args.self.now) (position l.self) (position c.make.new.self) c.args.calls.now (vec_items l.events) (vec_items c.push_reserved.new.self) l.call-index _ c.in_ok-reply.reply c.loop-call-test.true l.invariant.replied c.in_ok-reply.ensures c.push_reserved.ensures.items in
+    let room : length c.args.calls.now ≤ vec_capacity c.push_reserved.new.self = omega (arith, c.push_reserved.ensures.capacity, l.invariant.room) in
+    record { replied = done; count = c.push_reserved.ensures.len ∙ ap (λ n. n + 1) l.invariant.count; room = room }
 
 pub returns : goal.returns
 returns c =
     let l = c.loop-call in
-    replied_all (position c.args.self.now) (position l.self) c.args.calls.now (vec_items l.events) l.call-index c.loop-call-test.false l.invariant.0
+    replied_all (position c.args.self.now) (position l.self) c.args.calls.now (vec_items l.events) l.call-index c.loop-call-test.false l.invariant.replied

@@ -1,32 +1,33 @@
-use Rattle.std.proofs.Common.{◌≡◌, ℕ, ◌+◌, ◌≤◌, List, length, take, vec_items, sym, refl, ap, ◌∙◌, subst, arith}
-use Rattle.round.specs.Rows.{at, rows, clauses_in, Filled}
-use Rattle.round.proofs.Cutting.{cut_filled, cut_clauses, cut_places}
+use Rattle.std.proofs.Common.{◌≡◌, ◌≤◌, length, take, vec_items, refl, ap, ◌∙◌, arith}
+use Rattle.std.proofs.lemmas.List.{get_or_read_under}
+use Rattle.round.specs.Rows.{at}
+use Rattle.round.proofs.Growing.{filled_writing}
+use Rattle.round.proofs.Cutting.{left_filled, left_clauses, left_places}
 use Rattle.round.proofs.tables.Tables.truncate.Goals as goal
+
+pub invariant_of-self : goal.invariant_of-self
+invariant_of-self c =
+    let t = c.args.self.now in
+    let few : c.args.n ≤ length (vec_items t.outcomes) = omega (arith, c.requires.few, t.outcomes.ok.0) in
+    let is = get_or_read_under (vec_items t.starts) c.args.n t.starts.len c.index.result.now 0 c.index.ensures (omega (arith, t.rows.counted, t.starts.ok.0)) t.starts.ok.0 in
+    let ip : vec_items c.truncate-3.new.self ≡ take (at (vec_items t.starts) c.args.n) (vec_items t.places) = c.truncate-3.ensures.items ∙ ap (λ e. take e (vec_items t.places)) is in
+    record {
+      rows = filled_writing _ (left_filled (vec_items t.outcomes) (vec_items t.starts) (vec_items t.places) c.requires.filled c.args.n few (vec_items c.truncate.new.self) (vec_items c.truncate-2.new.self) (vec_items c.truncate-3.new.self) c.truncate.ensures.items c.truncate-2.ensures.items ip);
+      room = (omega (arith, c.truncate.ensures.capacity, t.room.0), omega (arith, c.truncate-2.ensures.capacity, t.room.1), omega (arith, c.truncate-3.ensures.capacity, t.room.2));
+      few = (omega (arith, c.truncate.ensures.len, t.few.0), omega (arith, c.truncate-3.ensures.len, t.few.1));
+    }
 
 pub returns : goal.returns
 returns c =
     let t = c.args.self.now in
-    let os : List ℕ = vec_items t.outcomes in
-    let ss : List ℕ = vec_items t.starts in
-    let ps : List ℕ = vec_items t.places in
-    let n : ℕ = c.args.n in
-    let f : Filled (rows os ss ps) = c.requires.filled in
-    let few : n ≤ length os = omega (arith, c.requires.few, t.outcomes.ok.0) in
-    let io : vec_items c.truncate.new.self ≡ take n os = c.truncate.ensures.items in
-    let is : vec_items c.truncate-2.new.self ≡ take (n + 1) ss = c.truncate-2.ensures.items in
-    let ip : vec_items c.truncate-3.new.self ≡ take (at ss n) ps = c.truncate-3.ensures.items ∙ ap (λ (e : ℕ). take e ps) c.start-end.ensures in
-    let same : rows (vec_items c.truncate.new.self) (vec_items c.truncate-2.new.self) (vec_items c.truncate-3.new.self) ≡ rows (take n os) (take (n + 1) ss) (take (at ss n) ps) =
-    λ i. rows (io i) (is i) (ip i) in
+    let few : c.args.n ≤ length (vec_items t.outcomes) = omega (arith, c.requires.few, t.outcomes.ok.0) in
+    let is = get_or_read_under (vec_items t.starts) c.args.n t.starts.len c.index.result.now 0 c.index.ensures (omega (arith, t.rows.counted, t.starts.ok.0)) t.starts.ok.0 in
+    let ip : vec_items c.truncate-3.new.self ≡ take (at (vec_items t.starts) c.args.n) (vec_items t.places) = c.truncate-3.ensures.items ∙ ap (λ e. take e (vec_items t.places)) is in
     record {
-      filled = subst Filled (sym same) (cut_filled os ss ps f n few);
-      roomy = record {
-        outcome_room = omega (arith, c.truncate.ensures.capacity, c.requires.roomy.outcome_room);
-        start_room = omega (arith, c.truncate-2.ensures.capacity, c.requires.roomy.start_room);
-        place_room = omega (arith, c.truncate-3.ensures.capacity, c.requires.roomy.place_room);
-      };
+      filled = left_filled (vec_items t.outcomes) (vec_items t.starts) (vec_items t.places) c.requires.filled c.args.n few (vec_items c.truncate.new.self) (vec_items c.truncate-2.new.self) (vec_items c.truncate-3.new.self) c.truncate.ensures.items c.truncate-2.ensures.items ip;
       conditions = refl;
-      clauses = ap clauses_in same ∙ cut_clauses os ss ps f n few;
-      starts = is;
+      clauses = left_clauses (vec_items t.outcomes) (vec_items t.starts) (vec_items t.places) c.requires.filled c.args.n few (vec_items c.truncate.new.self) (vec_items c.truncate-2.new.self) (vec_items c.truncate-3.new.self) c.truncate.ensures.items c.truncate-2.ensures.items ip;
+      starts = c.truncate-2.ensures.items;
       clauses_count = omega (arith, c.truncate.ensures.len, c.requires.few);
-      places_count = c.truncate-3.new.self.ok.0 ∙ ap length ip ∙ cut_places os ss ps f n few;
+      places_count = c.truncate-3.new.self.ok.0 ∙ left_places (vec_items t.outcomes) (vec_items t.starts) (vec_items t.places) c.requires.filled c.args.n few (vec_items c.truncate.new.self) (vec_items c.truncate-2.new.self) (vec_items c.truncate-3.new.self) c.truncate.ensures.items c.truncate-2.ensures.items ip;
     }
