@@ -1,17 +1,14 @@
 -- The accepted answers fit what the calls answer.
-use Rattle.std.proofs.Common.{◌≡◌, ℕ, ◌<◌, ◌≤◌, Bool, true, cond, List, [], ◌∷◌, ◌++◌, length, take, Ok, Err, Result, refl, ap, ◌∙◌, ap₂, inr, ⊎_elim, arith}
+use Rattle.std.proofs.Common.{◌≡◌, ℕ, ◌<◌, ◌≤◌, Bool, true, cond, List, [], ◌∷◌, ◌++◌, length, take, refl, ap, ◌∙◌, ap₂, inr, ⊎_elim, arith}
 use Rattle.std.proofs.lemmas.List.{take_at}
 use Rattle.std.proofs.lemmas.Bool.{both_ways}
 use Rattle.horn.specs.Sheets.{Sheet, literals}
 use Rattle.horn.specs.Levels.{in_force, how_many}
 use Rattle.horn.specs.Bans.{discharged}
 use Rattle.horn.specs.Lawfulness.{satisfiable}
-use Rattle.round.specs.Answers.{Answer, ok, refused, Opens, Asks, Rolls, words_for, roll_words, up_to, opened}
+use Rattle.round.specs.Answers.{Answer, ok, refused, Opens, Asks, Rolls, words_for, roll_words, up_to}
 use Rattle.round.specs.Calls.{Standing, after, explain}
 use Rattle.round.specs.Ranks.{Ranks, ranked}
-use Rattle.round.specs.Replies.{opening_answer, sheet_left}
-use Rattle.round.specs.declared.refusals.Opened.{Opened}
-use Rattle.round.specs.declared.refusals.Refusal.{Refusal}
 use Rattle.round.proofs.Meaning.{in_force_ranked}
 use Rattle.round.proofs.Rolls.{how_many_same, roll_same, length_words}
 

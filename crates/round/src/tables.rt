@@ -15,15 +15,17 @@ use horn::source::Source;
 use std::alloc::{AllocError, Global};
 
 // Clause k, counted from 0, has the outcome `outcomes[k]`, 0 for a ban, and the body from `starts[k]` up to
-// `starts[k + 1]` of `places`. The new form is no plainer: a row of clauses, each with the bounds of its body, would have
-// each end again as the next start.
+// `starts[k + 1]` of `places`. A row of clauses with the bounds of their bodies is no plainer: each end would stand again as
+// the next start; and a body has no Vec of its own, since all memory is reserved before there are bodies.
 #[derive(Drop)]
 pub(crate) struct Tables {
     pub(crate) conditions: u16,
     outcomes: Vec<u16>,
     starts: Vec<u16>,
     places: Vec<u16>,
+    // The bodies stand one after the other; the last one may be unfinished.
     ghost rows: { Writing (rows (vec_items outcomes) (vec_items starts) (vec_items places)) } by { writing_prop (rows (vec_items outcomes) (vec_items starts) (vec_items places)) },
+    // The memory is reserved, and enough.
     ghost room: { (CLAUSES ≤ vec_capacity outcomes) × (CLAUSES < vec_capacity starts) × (PLACES ≤ vec_capacity places) },
     ghost few: { (vec_len outcomes ≤ CLAUSES) × (vec_len places ≤ PLACES) },
 }

@@ -1,4 +1,4 @@
-use Rattle.std.proofs.Common.{◌≡◌, ℕ, Bool, ltb, List, Ok, sym, refl, ap, ◌∙◌, subst, arith}
+use Rattle.std.proofs.Common.{◌≡◌, ℕ, Bool, ltb, List, Ok, sym, refl, ap, ◌∙◌, subst}
 use Rattle.horn.specs.Sheets.{Sheet}
 use Rattle.round.specs.Answers.{Asks}
 use Rattle.round.specs.Replies.{ask_answer}

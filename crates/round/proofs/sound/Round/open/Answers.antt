@@ -1,7 +1,6 @@
 use Rattle.std.proofs.Common.{ap, inl}
 use Rattle.std.proofs.lemmas.Result.{err_from_is_err_and}
 use Rattle.round.specs.Answers.{refusal}
-use Rattle.round.specs.Replies.{opening_answer}
 use Rattle.round.proofs.Openings.{stocked_from, opened_from, opened_broken}
 use Rattle.round.proofs.Promise.{opening_promised}
 use Rattle.round.proofs.sound.Round.open.Goals as goal

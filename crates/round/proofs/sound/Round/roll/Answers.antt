@@ -8,12 +8,6 @@ use Rattle.round.specs.Sound.{round_is}
 use Rattle.round.proofs.Replying.{count_in_force, roll_in_force, rolls_ok}
 use Rattle.round.proofs.sound.Round.roll.Goals as goal
 
-pub write_roll-requires : goal.write_roll-requires
-write_roll-requires c =
-    let st = c.args.self.now.state in
-    let g = c.args.self.now.ok in
-    record { low = g.stocked.few_conditions; space = omega arith }
-
 pub returns : goal.returns
 returns c =
     let st = c.args.self.now.state in

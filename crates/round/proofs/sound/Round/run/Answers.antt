@@ -1,7 +1,7 @@
 use Rattle.std.proofs.Common.{◌+◌, ◌≤◌, [], length, vec_items, vec_capacity, refl, ap, ◌∙◌, arith}
 use Rattle.std.proofs.lemmas.Result.{err_from_is_err_and}
 use Rattle.round.specs.Sound.{position}
-use Rattle.round.proofs.Events.{replied_none, replied_more, replied_all, ran_part}
+use Rattle.round.proofs.Events.{replied_none, replied_more, ran_part}
 use Rattle.round.proofs.sound.Round.run.Goals as goal
 
 pub returns-in_err-events : goal.returns-in_err-events
@@ -22,8 +22,3 @@ loop-call-preserved c =
     let done = replied_more (position c.args.self.now) (position l.self) (position c.make.new.self) c.args.calls.now (vec_items l.events) (vec_items c.push_reserved.new.self) l.call-index _ c.in_ok-reply.reply c.loop-call-test.true l.invariant.replied c.in_ok-reply.ensures c.push_reserved.ensures.items in
     let room : length c.args.calls.now ≤ vec_capacity c.push_reserved.new.self = omega (arith, c.push_reserved.ensures.capacity, l.invariant.room) in
     record { replied = done; count = c.push_reserved.ensures.len ∙ ap (λ n. n + 1) l.invariant.count; room = room }
-
-pub returns : goal.returns
-returns c =
-    let l = c.loop-call in
-    replied_all (position c.args.self.now) (position l.self) c.args.calls.now (vec_items l.events) l.call-index c.loop-call-test.false l.invariant.replied

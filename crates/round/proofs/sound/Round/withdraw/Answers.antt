@@ -1,4 +1,4 @@
-use Rattle.std.proofs.Common.{◌≡◌, ℕ, ◌+◌, ◌-◌, refl, ap, subst, arith}
+use Rattle.std.proofs.Common.{ℕ, ◌+◌, ◌-◌, refl, ap, subst, arith}
 use Rattle.horn.specs.Sheets.{Sheet}
 use Rattle.round.specs.Ranks.{Ranks}
 use Rattle.round.specs.declared.state.State.{State}
