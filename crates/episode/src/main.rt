@@ -11,7 +11,7 @@ use std::{env, fs, io};
 use text::{Fault, TextSheet};
 
 mod feed;
-mod words;
+mod files;
 
 fn main(rt: HostRuntime) -> anyhow::Result<()> {
     run(&rt)
@@ -29,8 +29,8 @@ fn run(rt: &HostRuntime) -> anyhow::Result<()> {
     let show_file = fs::read(rt, show_path.as_str())?;
     episode(
         rt,
-        words::without_line_end(&network_file),
-        words::without_line_end(&show_file),
+        files::without_line_end(&network_file),
+        files::without_line_end(&show_file),
     )?;
     Ok(())
 }
@@ -72,13 +72,12 @@ fn judged(rt: &HostRuntime, name: &str, text: &[u8], sheet: &TextSheet<'_>) -> i
 // Prints why a text is refused; it then counts as a sheet without clauses.
 fn refused(rt: &HostRuntime, fault: Fault) -> io::Result<()> {
     let number = fault.number();
-    let why = words::of_fault(fault);
     match fault.place() {
         Some(place) => println!(rt;
-            "  refused with {number} at byte {place}: {why}; it counts as a sheet without clauses"
+            "  refused with {number} at byte {place}: {fault}; it counts as a sheet without clauses"
         ),
         None => println!(rt;
-            "  refused with {number}: {why}; it counts as a sheet without clauses"
+            "  refused with {number}: {fault}; it counts as a sheet without clauses"
         ),
     }
 }

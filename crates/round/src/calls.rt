@@ -9,8 +9,9 @@ ghost use Rattle.round.specs.Replies.{opening_answer, ask_answer, roll_answer, s
 ghost use Rattle.round.specs.Runs.{Step};
 ghost use Rattle.round.specs.Sound.{position, round_sheet};
 
+use crate::propagation::Ranked;
 use crate::refusals::{Opened, Refusal};
-use crate::rolling::{words_for, write_roll};
+use crate::rolling::words_for;
 use crate::sound::Round;
 use crate::state::State;
 use horn::source::Source;
@@ -78,10 +79,13 @@ impl Round {
         ensures step { Step (position self.now) (roll_call (length words.old)) (roll_answer result (take (words_for (round_sheet self.now).top) words.new)) (position self.now) }
         ensures buffer { words.new ≡ buffer_left result (in_force (round_sheet self.now)) (round_sheet self.now).top words.old }
     {
-        let top = self.state.tables.conditions;
-        if words.len() < words_for(top) {
+        if words.len() < words_for(self.state.tables.conditions) {
             return Err(Refusal::ShortBuffer);
         }
-        Ok(write_roll(&self.state.rank, top, words))
+        let ranked = Ranked {
+            clauses: self.state.tables.rows(),
+            rank: &self.state.rank,
+        };
+        Ok(ranked.write_roll(words))
     }
 }

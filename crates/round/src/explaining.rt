@@ -50,6 +50,7 @@ fn write_steps(
     requires room { length (by_mark marks.now top last) ≤ length steps.old }
     ensures { steps.new ≡ map (at chosen.now) (by_mark marks.now top last) ++ drop (length (by_mark marks.now top last)) steps.old }
 {
+    // The place in `steps` is counted: an iterator over it, advanced in the inner loop, is no plainer.
     let mut n = 0;
     for d in 0..last {
         for p in 1..top as usize + 1 {

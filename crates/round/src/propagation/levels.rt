@@ -91,6 +91,7 @@ impl Levels {
         ensures { Between (rows_of clauses.entry) (length clauses.entry.outcomes.now) self.new (front.head + 1) front.end front.level (front.head + 1) 0 0 }
     {
         let mut j = occurrences.last(self.reached.queue[front.head]);
+        // No `for`: the places are chained by their numbers.
         while j > 0 {
             self.visit(j - 1, front, clauses, occurrences);
             j = occurrences.before(j - 1);
