@@ -14,7 +14,7 @@ use text::{Counts, Fault};
 pub(crate) type Reply = Result<Answer, Refused>;
 
 // What a record is answered.
-#[derive(Clone, Copy)]
+#[derive(Clone, Copy, PartialEq, Eq, Debug)]
 pub(crate) enum Answer {
     // The counts of an accepted sheet.
     Sheet(Counts),
@@ -45,7 +45,7 @@ impl fmt::Display for Answer {
 }
 
 // Why a record is refused.
-#[derive(Clone, Copy)]
+#[derive(Clone, Copy, PartialEq, Eq, Debug)]
 pub(crate) enum Refused {
     // No record begins at this offset.
     Record(usize),

@@ -86,6 +86,7 @@ impl Ranked<'_> {
         }
     }
 
+    // `chosen` and `marks` stay two parameters: each function writes another one of them, so lending both in one struct is no plainer.
     // Marks what q needs, from the highest rank down: a chosen body has smaller ranks than its outcome. The time is that of a
     // pass over the conditions for each rank.
     fn mark_needed(&self, chosen: &[u16; CONDITIONS], q: u16, marks: &mut [u16; CONDITIONS])
@@ -97,6 +98,7 @@ impl Ranked<'_> {
         marks.fill(0);
         marks[q as usize] = self.rank[q as usize];
         for d in (0..self.rank[q as usize]).rev() {
+            // By number: an iterator would borrow the marks, which are written meanwhile.
             for p in 1..self.clauses.conditions as usize + 1 {
                 if marks[p] == d + 1 {
                     self.mark_body(chosen[p] as usize - 1, marks);

@@ -27,6 +27,7 @@ impl Ranked<'_> {
         ensures { result ≡ bits (up_to self.now.clauses.conditions (ranked self.now.rank.now)) first 32 }
     {
         let mut word = 0;
+        // A fold is no plainer: that the word fits has to be said of each turn.
         for b in (0..32).rev() {
             let bit = u32::from(self.holds(first + b));
             word = word * 2 + bit;

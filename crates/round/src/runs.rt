@@ -85,6 +85,7 @@ impl Round {
         Ok(Answered::Rolled(size, words))
     }
 
+    // Another call and another case than in `roll_into`; a function that takes both as parameters is no plainer.
     // Explains condition p in a buffer, and answers with the steps that were written.
     fn explain_into(&mut self, p: u16, mut steps: Vec<u16>) -> Reply
         ensures { Replies (position self.old) (Call.Explain p (vec_len steps)) result (position self.new) }

@@ -186,13 +186,13 @@ impl Tables {
         Ok(())
     }
 
-    // Fills empty tables from any source; refused, and left empty, where its clauses exceed a sheet's limits.
+    // Fills the tables from any source; refused, and left empty, where its clauses exceed a sheet's limits.
     pub(crate) fn fill_from<S: Source>(&mut self, source: &S) -> Result<(), Refusal>
-        requires { Emptied self.old }
         ensures kept { OnOk result (Holds (S.Source.sheet source.now) self.new) }
         ensures refused { IfErr result (λ e. (e ≡ Refusal.TooLarge) × IsTooLarge (S.Source.sheet source.now)) }
         ensures emptied { OnErr result (Emptied self.new) }
     {
+        self.clear();
         let copied = self.copy_clauses(source);
         match copied {
             Ok(()) => self.conditions = source.conditions(),

@@ -19,6 +19,7 @@ pub(crate) struct Ranked<'a> {
 }
 
 // Whether all the conditions have ranks.
+// The clause on conditions stands here, in `newly` and in `all_lower`: a type for such slices would be made for three one-line functions, which is no plainer.
 fn all_ranked(conditions: &[u16], rank: &[u16; CONDITIONS]) -> bool
     requires { All (λ p. p < 1001) conditions.now }
     ensures { result ≡ list_all (ranked rank.now) conditions.now }
