@@ -33,6 +33,7 @@ impl<A: Source, B: Source> Source for Joined<A, B> {
         self.first.clauses().saturating_add(self.second.clauses())
     }
 
+    // The trait asks for these three; one look-up that takes the question as a closure is no plainer.
     fn outcome(&self, i: u16) -> Option<u16> {
         match self.past_first(i) {
             None => self.first.outcome(i),

@@ -19,7 +19,7 @@ pub trait Source {
     fn clauses(&self) -> u16
         ensures { result ≡ length (sheet self.now).clauses };
 
-    // the outcome of clause i, 0 for a ban
+    // the outcome of clause i, 0 for a ban: a rule of the project, as a source answers plain numbers
     fn outcome(&self, i: u16) -> Option<u16>
         ensures { result ≡ outcome_at (sheet self.now) i };
 
@@ -32,7 +32,7 @@ pub trait Source {
         ensures { result ≡ condition_at (sheet self.now) i j };
 }
 
-// A source that is lent is one too.
+// A source that is lent is one too. The trait asks for each question, so each is passed on.
 impl<S: Source> Source for &S {
     ghost sheet = { λ s. S.Source.sheet s.now };
 

@@ -11,6 +11,7 @@ mod making;
 pub mod questions;
 
 // A good text with the place where each clause starts, or the empty text for a refused one.
+// Places and not slices: a project rule keeps the bytes with the caller, and a place takes two bytes where a slice takes sixteen.
 #[derive(Drop)]
 pub struct TextSheet<'a> {
     bytes: &'a [u8],

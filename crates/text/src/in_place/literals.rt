@@ -23,6 +23,7 @@ impl Literal {
         }
     }
 
+    // One question for each case: a test that takes the case as a parameter is no plainer.
     pub(crate) fn body_condition(self) -> Option<u16>
         ensures { result ≡ body_condition self }
     {
