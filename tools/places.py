@@ -85,7 +85,7 @@ for where, line in lines():
         say("3", "a", where, line)
     if re.match(r"for .* in .*\.\.", line):
         say("3", "b", where, line)
-    if re.match(r"\w+ \+= 1;$", line):
+    if re.match(r"[\w.]+ \+= 1;$", line):
         say("3", "c", where, line)
     if re.search(r"\b(fn\(|dyn |impl Fn|Fn(Mut|Once)?\()", line):
         say("7", "b", where, line)

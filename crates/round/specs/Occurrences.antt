@@ -1,5 +1,5 @@
 -- Where the conditions occur in the bodies.
-use Rattle.std.specs.Prelude.{◌≡◌, ℕ, ◌-◌, ◌<◌, ◌≤◌, List, length, ◌≢◌}
+use Rattle.std.specs.Prelude.{suc, zero, Some, None, Option, ◌≡◌, ℕ, ◌-◌, ◌<◌, ◌≤◌, List, length, ◌≢◌}
 use Rattle.round.specs.Rows.{at, Rows, Body}
 
 -- The places of each condition form a chain, the last place first: `first` has one more than the last place of the
@@ -20,3 +20,8 @@ pub record Owned (t : Rows) (m n : ℕ) (owner : List ℕ) : Type 0 where
 pub record Linked (t : Rows) (first next owner : List ℕ) : Type 0 where
   pub chained : Chained (length t.places) t.places first next
   pub owned : Owned t (length t.outs) (length t.places) owner
+
+-- one more than a place, 0 for none: how a chain keeps the place that comes next
+abbrev pub cursor : Option ℕ → ℕ
+cursor None = zero
+cursor (Some j) = suc j

@@ -1,6 +1,6 @@
 // Explanations: the steps of a shortest pebbling.
 ghost use Rattle.std.specs.Prelude.{◌≡◌, ℕ, ◌+◌, ◌<◌, ◌≤◌, true, ◌++◌, map, length, drop, if◌then◌else◌, nat_eq};
-ghost use Rattle.std.specs.List.{All, list_all};
+ghost use Rattle.std.specs.List.{list_all};
 ghost use Rattle.horn.specs.Sheets.{Condition, any_of};
 ghost use Rattle.horn.specs.Levels.{explanation, in_force, how_many};
 ghost use Rattle.round.specs.Answers.{Explains};
@@ -17,16 +17,6 @@ use crate::propagation::Ranked;
 use crate::refusals::{Explained, Refusal};
 use crate::sizes::CONDITIONS;
 use crate::sound::Round;
-
-// Whether all the conditions have ranks below r.
-fn all_lower(conditions: &[u16], rank: &[u16; CONDITIONS], r: u16) -> bool
-    requires { All (λ p. p < 1001) conditions.now }
-    ensures { result ≡ list_all (lower rank.now r) conditions.now }
-{
-    conditions
-        .iter()
-        .all(|p| rank[*p as usize] > 0 && rank[*p as usize] < r)
-}
 
 // How many conditions up to `top` are marked.
 fn count_marked(marks: &[u16; CONDITIONS], top: u16) -> u16
@@ -50,7 +40,7 @@ fn write_steps(
     requires room { length (by_mark marks.now top last) ≤ length steps.old }
     ensures { steps.new ≡ map (at chosen.now) (by_mark marks.now top last) ++ drop (length (by_mark marks.now top last)) steps.old }
 {
-    // The place in `steps` is counted: an iterator over it, advanced in the inner loop, is no plainer.
+    // The place in `steps` is counted, and p reads two tables: a zip of them beside an iterator over `steps` is no plainer.
     let mut n = 0;
     for d in 0..last {
         for p in 1..top as usize + 1 {
@@ -63,14 +53,24 @@ fn write_steps(
 }
 
 impl Ranked<'_> {
+    // Whether all conditions of clause c, counted from 0, have ranks below r.
+    fn all_lower(&self, c: usize, r: u16) -> bool
+        requires { c < length self.now.clauses.outcomes.now }
+        ensures { result ≡ list_all (lower self.now.rank.now r) (clause_in (rows_of self.now.clauses) c).body }
+    {
+        let body = self.clauses.body(c);
+        body.iter().all(|p| self.rank[*p as usize] > 0 && self.rank[*p as usize] < r)
+    }
+
     // Fills `chosen` with the number of each condition's chosen clause: the lowest that gives it and whose conditions all have
     // smaller ranks. A lower clause comes later and writes over a higher one.
     fn choose(&self, chosen: &mut [u16; CONDITIONS])
         ensures { Choices (lent_sheet self.now.clauses) chosen.new }
     {
+        // By number: it is what is chosen.
         for c in (0..self.clauses.len()).rev() {
             let outcome = self.clauses.outcomes[c] as usize;
-            if all_lower(self.clauses.body(c), self.rank, self.rank[outcome]) {
+            if self.all_lower(c, self.rank[outcome]) {
                 chosen[outcome] = c as u16 + 1;
             }
         }

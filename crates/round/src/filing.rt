@@ -11,7 +11,7 @@ use crate::refusals::{Filed, Refusal};
 use crate::sound::Round;
 
 // How many filings may stand.
-const MAX_FILINGS: u16 = 256;
+pub(crate) const MAX_FILINGS: u16 = 256;
 
 impl Round {
     // The clause number of one more filing of condition p.

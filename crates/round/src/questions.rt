@@ -1,4 +1,4 @@
-// A round is a source: its own clauses.
+// A round is a source: its own clauses. The trait asks for each question, so each is passed on.
 ghost use Rattle.round.specs.Sound.{round_sheet, round_lawful};
 
 use crate::sound::Round;

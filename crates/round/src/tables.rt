@@ -14,9 +14,9 @@ use horn::limits::{MAX_CLAUSES, MAX_LITERALS};
 use horn::source::Source;
 use std::alloc::{AllocError, Global};
 
-// Clause k, counted from 0, has the outcome `outcomes[k]`, 0 for a ban, and the body from `starts[k]` up to
-// `starts[k + 1]` of `places`. A row of clauses with the bounds of their bodies is no plainer: each end would stand again as
-// the next start; and a body has no Vec of its own, since all memory is reserved before there are bodies.
+// Clause k, counted from 0, has the outcome `outcomes[k]`, 0 for a ban as a source answers it, and the body from `starts[k]` up to
+// `starts[k + 1]` of `places`. A row of clauses, each with its outcome and the end of its body, is no plainer: the first body then
+// has no start to read. A body has no Vec of its own, since all memory is reserved before there are bodies.
 #[derive(Drop)]
 pub(crate) struct Tables {
     pub(crate) conditions: u16,

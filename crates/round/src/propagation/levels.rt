@@ -28,6 +28,7 @@ struct Front {
     level: u16,
 }
 
+// Clauses and their occurrences stay two parameters: a type for both would be made for three functions of this file, which is no plainer.
 impl Levels {
     pub(super) fn new(heap: Global) -> Result<Levels, AllocError> {
         let reached = Reached::new(heap)?;
@@ -53,6 +54,7 @@ impl Levels {
         ensures { Between (rows_of clauses.entry) (length clauses.entry.outcomes.now) self.new 0 0 0 0 0 0 }
     {
         self.reached.clear();
+        // By number: it is the counter's number too.
         for c in 0..clauses.len() {
             self.start(c, clauses);
         }
@@ -90,11 +92,10 @@ impl Levels {
         requires before { Between (rows_of clauses) (length clauses.outcomes.now) self.old front.head front.end front.level front.head 0 0 }
         ensures { Between (rows_of clauses.entry) (length clauses.entry.outcomes.now) self.new (front.head + 1) front.end front.level (front.head + 1) 0 0 }
     {
-        let mut j = occurrences.last(self.reached.queue[front.head]);
-        // No `for`: the places are chained by their numbers.
-        while j > 0 {
-            self.visit(j - 1, front, clauses, occurrences);
-            j = occurrences.before(j - 1);
+        let mut next = occurrences.last(self.reached.queue[front.head]);
+        while let Some(place) = next {
+            self.visit(place, front, clauses, occurrences);
+            next = occurrences.before(place);
         }
     }
 
@@ -109,7 +110,7 @@ impl Levels {
             end: 0,
             level: 0,
         };
-        // No `for`: an iterator would borrow the queue, which grows while its conditions are visited.
+        // No `for`: the queue grows while it is gone through. A VecDeque is no plainer: the facts speak of conditions that have left it.
         while front.head < self.reached.queue.len() {
             if front.head == front.end {
                 front.end = self.reached.queue.len();

@@ -1,7 +1,7 @@
 // Where each condition occurs in the bodies.
 ghost use Rattle.std.specs.Prelude.{◌≡◌, ℕ, ◌<◌, ◌≤◌, length};
 ghost use Rattle.round.specs.Lending.{rows_of};
-ghost use Rattle.round.specs.Occurrences.{Chained, Owned, Linked};
+ghost use Rattle.round.specs.Occurrences.{Chained, Owned, Linked, cursor};
 ghost use Rattle.round.specs.Rows.{at};
 
 use super::ClauseRows;
@@ -11,6 +11,7 @@ use std::alloc::{AllocError, Global};
 // Where each condition occurs: the places of condition p form a chain, from place `first[p] - 1` to `next[place] - 1`
 // until 0, and place j is in the body of clause `owner[j]`.
 // The chains stay: places sorted by condition would fill as many tables and need a counting sort, which is no plainer.
+// `next` and `owner` stay two tables: links are set place by place, owners a whole body at a time.
 #[derive(Drop)]
 pub(super) struct Occurrences {
     first: Box<[u16; CONDITIONS]>,
@@ -45,6 +46,7 @@ fn chain(places: &[u16], first: &mut [u16; CONDITIONS], next: &mut [u16; PLACES]
 fn own(clauses: ClauseRows<'_>, owner: &mut [u16; PLACES])
     ensures { Owned (rows_of clauses.entry) (length clauses.entry.outcomes.now) (length clauses.entry.places.now) owner.new }
 {
+    // By number: it is what is noted.
     for c in 0..clauses.len() {
         owner[clauses.starts[c] as usize..clauses.starts[c + 1] as usize].fill(c as u16);
     }
@@ -60,20 +62,20 @@ impl Occurrences {
         own(clauses, &mut self.owner);
     }
 
-    // One more than the last place of condition p, 0 if it has none.
-    pub(super) fn last(&self, p: u16) -> usize
+    // The last place of condition p, if it has one.
+    pub(super) fn last(&self, p: u16) -> Option<usize>
         requires { p < 1001 }
-        ensures { result ≡ at self.now.first.value p }
+        ensures { cursor result ≡ at self.now.first.value p }
     {
-        self.first[p as usize] as usize
+        usize::from(self.first[p as usize]).checked_sub(1)
     }
 
-    // One more than the place of the same condition before this one, 0 if there is none.
-    pub(super) fn before(&self, place: usize) -> usize
+    // The place of the same condition before this one, if there is one.
+    pub(super) fn before(&self, place: usize) -> Option<usize>
         requires { place < 8256 }
-        ensures { result ≡ at self.now.next.value place }
+        ensures { cursor result ≡ at self.now.next.value place }
     {
-        self.next[place] as usize
+        usize::from(self.next[place]).checked_sub(1)
     }
 
     // The clause whose body has this place.

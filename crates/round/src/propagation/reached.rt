@@ -6,7 +6,8 @@ ghost use Rattle.round.specs.Steps.{zeros, Entered};
 use crate::sizes::CONDITIONS;
 use std::alloc::{AllocError, Global};
 
-// The rank of each condition, 0 for none yet, and a queue of those that have one, in the order in which they got it.
+// The rank of each condition, 0 for none yet, and a queue of those that have one, in the order in which they got it. Options
+// are no plainer: ranks are compared and counted as numbers, and tables of numbers are what is reserved.
 #[derive(Drop)]
 pub(super) struct Reached {
     pub(super) rank: Box<[u16; CONDITIONS]>,

@@ -18,7 +18,7 @@ pub(crate) struct ClauseRows<'a> {
 impl<'a> ClauseRows<'a> {
     ghost use Rattle.round.specs.Lending.{rows_of};
 
-    // How many clauses there are. Loops over clauses go by number, since the number is what they store or answer.
+    // How many clauses there are.
     pub(crate) fn len(&self) -> usize
         ensures { result ≡ length self.now.outcomes.now }
     {

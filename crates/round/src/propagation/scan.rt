@@ -1,11 +1,11 @@
 // What the ranks say of the bans and of the body places.
-ghost use Rattle.std.specs.Prelude.{◌≡◌, ◌<◌, not, ◌&&◌, ◌==◌};
+ghost use Rattle.std.specs.Prelude.{◌≡◌, ◌<◌, not, ◌&&◌, ◌==◌, length};
 ghost use Rattle.std.specs.List.{All, list_all, count_by};
 ghost use Rattle.horn.specs.Bans.{places};
 ghost use Rattle.horn.specs.Levels.{in_force};
-ghost use Rattle.round.specs.Lending.{lent_sheet};
+ghost use Rattle.round.specs.Lending.{rows_of, lent_sheet};
 ghost use Rattle.round.specs.Ranks.{Ranks, ranks_prop, Scanned, ranked};
-ghost use Rattle.round.specs.Rows.{at};
+ghost use Rattle.round.specs.Rows.{at, clause_in};
 
 use super::ClauseRows;
 use crate::sizes::CONDITIONS;
@@ -18,16 +18,7 @@ pub(crate) struct Ranked<'a> {
     ghost ranks: { Ranks (lent_sheet clauses) rank.now } by { ranks_prop (lent_sheet clauses) rank.now },
 }
 
-// Whether all the conditions have ranks.
-// The clause on conditions stands here, in `newly` and in `all_lower`: a type for such slices would be made for three one-line functions, which is no plainer.
-fn all_ranked(conditions: &[u16], rank: &[u16; CONDITIONS]) -> bool
-    requires { All (λ p. p < 1001) conditions.now }
-    ensures { result ≡ list_all (ranked rank.now) conditions.now }
-{
-    conditions.iter().all(|p| rank[*p as usize] > 0)
-}
-
-// How many of the conditions have a rank in `after` and none in `before`.
+// How many of the conditions have a rank in `after` and none in `before`. A function of its own, since its chain is proved of a list.
 fn newly(conditions: &[u16], before: &[u16; CONDITIONS], after: &[u16; CONDITIONS]) -> usize
     requires { All (λ p. p < 1001) conditions.now }
     ensures { result ≡ count_by (λ p. ranked after.now p && at before.now p == 0) conditions.now }
@@ -39,12 +30,22 @@ fn newly(conditions: &[u16], before: &[u16; CONDITIONS], after: &[u16; CONDITION
 }
 
 impl Ranked<'_> {
+    // Whether all conditions of clause c, counted from 0, have ranks.
+    fn all_ranked(&self, c: usize) -> bool
+        requires { c < length self.now.clauses.outcomes.now }
+        ensures { result ≡ list_all (ranked self.now.rank.now) (clause_in (rows_of self.now.clauses) c).body }
+    {
+        let body = self.clauses.body(c);
+        body.iter().all(|p| self.rank[*p as usize] > 0)
+    }
+
     // The number of the lowest broken ban, counted from 1, if there is one.
     pub(crate) fn lowest_broken(&self) -> Option<u16>
         ensures { Scanned (lent_sheet self.now.clauses) result }
     {
+        // By number, which is the answer. `find` was tried, and its step stayed unproved.
         for c in 0..self.clauses.len() {
-            if self.clauses.outcomes[c] == 0 && all_ranked(self.clauses.body(c), self.rank) {
+            if self.clauses.outcomes[c] == 0 && self.all_ranked(c) {
                 return Some(c as u16 + 1);
             }
         }

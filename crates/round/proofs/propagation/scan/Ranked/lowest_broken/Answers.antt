@@ -1,4 +1,4 @@
-use Rattle.std.proofs.Common.{ℕ, Bool, List, ap, ◌∙◌, arith}
+use Rattle.std.proofs.Common.{ℕ, Bool, List, refl, ap, ◌∙◌, arith}
 use Rattle.std.proofs.lemmas.Bool.{and_from}
 use Rattle.horn.specs.Bans.{no_outcome}
 use Rattle.horn.specs.Sheets.{all_of}
@@ -19,7 +19,7 @@ returns-then-all_ranked c =
     scanned_some t rows.conditions c.args.self.now.rank.now (lent_lawful rows) c.args.self.now.ranks c.loop-c.c (omega arith) c.loop-c.invariant
     (and_from (no_outcome (clause_in t c.loop-c.c).outcome) (all_of f body)
     (ap (λ (o : ℕ). no_outcome (kept_outcome o)) c.if-self-c-eq0.true)
-    (body_tested f t c.loop-c.c c.body.result.now _ c.body.ensures.body c.all_ranked.ensures ∙ c.if-all_ranked.true))
+    (body_tested f t c.loop-c.c body _ refl c.all_ranked.ensures ∙ c.if-all_ranked.true))
 
 pub returns : goal.returns
 returns c =
