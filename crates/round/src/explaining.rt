@@ -53,7 +53,8 @@ fn write_steps(
 }
 
 impl Ranked<'_> {
-    // Whether all conditions of clause c, counted from 0, have ranks below r.
+    // Whether all conditions of clause c, counted from 0, have ranks below r. Another test than in `all_ranked`: one function that
+    // takes the test as a closure would have to say at each call what the closure means, which is no plainer.
     fn all_lower(&self, c: usize, r: u16) -> bool
         requires { c < length self.now.clauses.outcomes.now }
         ensures { result ≡ list_all (lower self.now.rank.now r) (clause_in (rows_of self.now.clauses) c).body }

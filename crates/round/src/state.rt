@@ -13,7 +13,7 @@ use crate::tables::Tables;
 use std::alloc::{AllocError, Global};
 
 // The first `opened` clauses are those that the round was opened on, the others are filings. A mark is the number of filings
-// that stood when it was set.
+// that stood when it was set. In the tables by condition 0 is none, as in `Reached`.
 #[derive(Drop)]
 pub(crate) struct State {
     pub(crate) tables: Tables,
