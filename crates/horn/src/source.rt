@@ -19,7 +19,7 @@ pub trait Source {
     fn clauses(&self) -> u16
         ensures { result ≡ length (sheet self.now).clauses };
 
-    // the outcome of clause i, 0 for a ban: a rule of the project, as a source answers plain numbers
+    // the outcome of clause i, 0 for a ban: a rule of the project (docs/SOURCES.md), since callers of every source count on it
     fn outcome(&self, i: u16) -> Option<u16>
         ensures { result ≡ outcome_at (sheet self.now) i };
 

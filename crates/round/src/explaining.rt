@@ -40,7 +40,8 @@ fn write_steps(
     requires room { length (by_mark marks.now top last) ≤ length steps.old }
     ensures { steps.new ≡ map (at chosen.now) (by_mark marks.now top last) ++ drop (length (by_mark marks.now top last)) steps.old }
 {
-    // The place in `steps` is counted, and p reads two tables: a zip of them beside an iterator over `steps` is no plainer.
+    // The place in `steps` is counted, and p reads two tables: a zip of them beside an iterator over `steps` is no plainer. The
+    // marks count from 0, as `by_mark` does; the end of an inclusive range joins two ways out, which the proof would have to tell apart.
     let mut n = 0;
     for d in 0..last {
         for p in 1..top as usize + 1 {
@@ -54,7 +55,8 @@ fn write_steps(
 
 impl Ranked<'_> {
     // Whether all conditions of clause c, counted from 0, have ranks below r. Another test than in `all_ranked`: one function that
-    // takes the test as a closure would have to say at each call what the closure means, which is no plainer.
+    // takes the test as a closure would have to say at each call what the closure means, and `all_lower` with a rank that no
+    // condition has would hide what is asked; neither is plainer.
     fn all_lower(&self, c: usize, r: u16) -> bool
         requires { c < length self.now.clauses.outcomes.now }
         ensures { result ≡ list_all (lower self.now.rank.now r) (clause_in (rows_of self.now.clauses) c).body }
@@ -98,6 +100,7 @@ impl Ranked<'_> {
     {
         marks.fill(0);
         marks[q as usize] = self.rank[q as usize];
+        // Ranks from 0 here too, as `write_steps` says.
         for d in (0..self.rank[q as usize]).rev() {
             // By number: an iterator would borrow the marks, which are written meanwhile.
             for p in 1..self.clauses.conditions as usize + 1 {

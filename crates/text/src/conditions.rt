@@ -5,7 +5,7 @@ ghost use Rattle.text.specs.Limits.{Read};
 
 use horn::limits::MAX_CONDITION;
 
-// What stands for every number above the greatest condition.
+// What stands for every number above the greatest condition; an Option is no plainer, since it is only compared.
 const TOO_GREAT: u16 = MAX_CONDITION + 1;
 
 // The number whose digits the bytes begin with.

@@ -61,6 +61,7 @@ impl Levels {
     }
 
     // Discharges one place of the condition at the front's head. After the last place of its clause the outcome is entered.
+    // Another step than `start`, which opens the places of a clause: they share `enter`, and one function for both is no plainer.
     fn visit(
         &mut self,
         place: usize,

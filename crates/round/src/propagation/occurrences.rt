@@ -9,7 +9,7 @@ use crate::sizes::{CONDITIONS, PLACES};
 use std::alloc::{AllocError, Global};
 
 // Where each condition occurs: the places of condition p form a chain, from place `first[p] - 1` to `next[place] - 1`
-// until 0, and place j is in the body of clause `owner[j]`.
+// until 0, which is none, as in `Reached`, and place j is in the body of clause `owner[j]`.
 // The chains stay: places sorted by condition would fill as many tables and need a counting sort, which is no plainer.
 // `next` and `owner` stay two tables: links are set place by place, owners a whole body at a time.
 #[derive(Drop)]

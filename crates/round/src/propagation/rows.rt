@@ -25,7 +25,8 @@ impl<'a> ClauseRows<'a> {
         self.outcomes.len()
     }
 
-    // The conditions of clause c, counted from 0.
+    // The conditions of clause c, counted from 0. That c is a clause is asked here and by four functions that take c: a type for a
+    // clause's number would be made anew in each loop, which is no plainer.
     pub(crate) fn body(&self, c: usize) -> &'a [u16]
         requires { c < length self.now.outcomes.now }
         ensures body { result.now ≡ (clause_in (rows_of self.now) c).body }
