@@ -74,25 +74,23 @@ def clause_fact(text):
 for f in ALL:
     if FLAG.search(f.signature):
         say("1", "a", f"{f.file}:{f.line}", "answers a flag: " + f.signature[:110])
+# letters that a line is found for by its text alone
+LINES = [
+    ("1b", r"^(pub(\([a-z]+\))? )?enum "),
+    ("1c", r"Result<[^,<>]+, u\d+>|number: u8|Fault::\w+ =>|, \d\d, (Some|None)"),
+    ("4a", r"=> (true|false),$"),
+    ("3a", r"\bwhile\b"),
+    ("3b", r"^for .* in .*\.\."),
+    ("3c", r"^[\w.]+ \+= 1;$"),
+    ("7b", r"\b(fn\(|dyn |impl Fn|Fn(Mut|Once)?\()"),
+    ("6a", r"^(pub(\([a-z]+\))? )?\w+: (Vec|&'a \[|Box<\[)"),
+    ("6b", r"^(?!ensures|requires|ghost|(pub(\(crate\))? )?const).*\b(1001|2256|2257|8256|0\.\.32|heap, 32)\b"),
+    ("4d", r"derive\("),
+]
 for where, line in lines():
-    if re.match(r"(pub(\([a-z]+\))? )?enum ", line):
-        say("1", "b", where, line)
-    if re.search(r"Result<[^,<>]+, u\d+>|number: u8|Fault::\w+ =>|, \d\d, (Some|None)", line):
-        say("1", "c", where, line)
-    if re.search(r"=> (true|false),$", line):
-        say("4", "a", where, line)
-    if re.search(r"\bwhile\b", line):
-        say("3", "a", where, line)
-    if re.match(r"for .* in .*\.\.", line):
-        say("3", "b", where, line)
-    if re.match(r"[\w.]+ \+= 1;$", line):
-        say("3", "c", where, line)
-    if re.search(r"\b(fn\(|dyn |impl Fn|Fn(Mut|Once)?\()", line):
-        say("7", "b", where, line)
-    if re.match(r"(pub(\([a-z]+\))? )?\w+: (Vec|&'a \[|Box<\[)", line):
-        say("6", "a", where, line)
-    if re.search(r"\b(1001|2256|2257|8256|0\.\.32|heap, 32)\b", line) and not line.startswith(("ensures", "requires", "ghost", "pub const", "const", "pub(crate) const")):
-        say("6", "b", where, line)
+    for letter, pattern in LINES:
+        if re.search(pattern, line):
+            say(letter[0], letter[1], where, line)
 
 by_shape = collections.defaultdict(list)
 for f in ALL:
@@ -117,9 +115,6 @@ for f in ALL:
     arms = re.findall(r"=> ", f.body)
     if len(arms) >= 3 and re.match(r"\s*\{\s*match", f.body) and re.search(r'=> ("|\d)', f.body):
         say("4", "b", f"{f.file}:{f.line}", f"{f.name}: a conversion written by cases")
-for where, line in lines():
-    if re.search(r"derive\(", line):
-        say("4", "d", where, line)
 
 facts = collections.defaultdict(set)
 for f in ALL:
