@@ -1,18 +1,19 @@
 -- What the tables of a round hold after an opening.
-use Rattle.std.proofs.Common.{◌≡◌, ℕ, zero, suc, ◌+◌, ◌-◌, ◌<◌, ◌≤◌, Bool, List, [], ◌∷◌, map, length, get_or, drop, Some, not, ◌&&◌, vec_items, vec_len, sym, refl, ap, ◌∙◌, subst, Err, inl, inr, ⊎_elim, add-one, arith}
+use Rattle.std.proofs.Common.{◌≡◌, ℕ, zero, suc, ◌+◌, ◌-◌, ◌<◌, ◌≤◌, Bool, false, List, [], ◌∷◌, map, length, get_or, drop, Some, not, ◌&&◌, vec_items, vec_len, sym, refl, ap, ◌∙◌, subst, Err, inl, inr, ⊎_elim, add-one, arith}
 use native.Mathlib.Decide.{dec_le}
 use Rattle.std.proofs.lemmas.List.{take_all, drop_all}
 use Rattle.horn.specs.Sheets.{Sheet, Clause, Condition, Lawful, LawfulClause, empty_sheet, all_of, literals}
-use Rattle.std.proofs.lemmas.Bool.{le-ltb, not_from_false}
+use Rattle.std.proofs.lemmas.Bool.{le-ltb, not_from_false, cases_Bool}
 use Rattle.horn.specs.Bans.{places, discharged, lowest_broken}
 use Rattle.horn.specs.Levels.{in_force}
 use Rattle.horn.specs.Lawfulness.{lawful, satisfiable}
 use Rattle.horn.specs.Sources.{LawfulSource}
 use Rattle.horn.proofs.Lawfulness.{lawful_tested}
+use Rattle.horn.proofs.Levels.{level_condition}
 use Rattle.horn.proofs.Tests.{all_nth}
 use mathlib.Core.Path.{fun_ext}
 use Rattle.round.specs.Rows.{at, Rows, Body, Filled, LawfulRows, kept_outcome, clause_in, clauses_in, sheet_in}
-use Rattle.round.specs.Ranks.{Ranks, ranked}
+use Rattle.round.specs.Ranks.{Ranks, OnlyUpTo, ranked}
 use Rattle.round.specs.Lent.{SheetRows}
 use Rattle.round.specs.Held.{held_rows, held_sheet, Emptied, Holds}
 use Rattle.round.specs.Answers.{Opens, ok, refusal}
@@ -64,6 +65,13 @@ lawful_rows top t h f l = record {
 
 pub stocked_lawful : (st : State) → Stocked st → Lawful (state_sheet st)
 stocked_lawful st s = (lawful_tested (state_sheet st)).0 s.lawfully
+
+-- only a condition of the clauses has a rank
+pub only_ranked : (st : State) → Good st → OnlyUpTo st.tables.conditions st.rank.value
+only_ranked st g p above =
+    let s : Sheet = state_sheet st in
+    let none : in_force s p ≡ false = ⊎_elim (λ h. absurd (omega (arith, above, (level_condition s (stocked_lawful st g.stocked) s.top p h).1))) (λ h. h) (cases_Bool (in_force s p)) in
+    g.ranked p (omega arith) ∙ rw none refl
 
 -- the clauses that a state holds can be lent
 pub lendable : (st : State) → Stocked st → SheetRows st.tables.conditions (held_rows st.tables)

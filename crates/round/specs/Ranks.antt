@@ -15,6 +15,10 @@ Ranks s rank = (p : ℕ) → 0 < p → at rank p ≡ rank_or_zero s p
 pub ranks_prop : (s : Sheet) (rank : List ℕ) → IsProp (Ranks s rank)
 ranks_prop s rank = Π_prop (λ p. Π_prop (λ _. ℕ_set _ _))
 
+-- no number above top has a rank
+abbrev pub OnlyUpTo : ℕ → List ℕ → Type 0
+OnlyUpTo top rank = (p : ℕ) → top < p → at rank p ≡ 0
+
 -- the table has a rank for the condition
 abbrev pub ranked : List ℕ → ℕ → Bool
 ranked rank p = nat_lt 0 (at rank p)

@@ -1,9 +1,11 @@
 // What a round is made of: the clauses, the marks, the rank of each condition, and tables to work in.
-ghost use Rattle.std.specs.Prelude.{◌≡◌, IfOk};
+ghost use Rattle.std.specs.Prelude.{◌≡◌, ℕ, ◌≤◌, IfOk};
 ghost use Rattle.horn.specs.Sheets.{empty_sheet};
 ghost use Rattle.round.specs.Calls.{nothing};
 ghost use Rattle.round.specs.Good.{Good, Stocked, Usable, Bare, Settled, state_sheet, opened_sheet, state_standing};
 ghost use Rattle.round.specs.Held.{Emptied};
+ghost use Rattle.round.specs.Ranks.{OnlyUpTo};
+ghost use Rattle.round.specs.Rows.{at};
 
 use crate::marking::MAX_MARKS;
 use crate::propagation::{Ranked, Scratch, ranks};
@@ -23,6 +25,16 @@ pub(crate) struct State {
     pub(crate) spare: Box<[u16; CONDITIONS]>,
     pub(crate) chosen: Box<[u16; CONDITIONS]>,
     pub(crate) scratch: Scratch,
+}
+
+// Takes the ranks of the conditions up to `top` away. No other number has a rank, so the rest of the table is not touched: a small
+// sheet is forgotten in little time.
+fn unrank(rank: &mut [u16; CONDITIONS], top: u16)
+    requires few { top ≤ 1000 }
+    requires ranked { OnlyUpTo top rank.old }
+    ensures { (p : ℕ) → at rank.new p ≡ 0 }
+{
+    rank[..usize::from(top) + 1].fill(0);
 }
 
 impl State {
@@ -48,16 +60,18 @@ impl State {
         })
     }
 
-    // Empties the tables and clears the ranks.
+    // Empties the tables and takes the ranks away.
     pub(crate) fn empty(&mut self)
-        requires { Usable self.old }
+        requires usable { Usable self.old }
+        requires few { self.old.tables.conditions ≤ 1000 }
+        requires ranked { OnlyUpTo self.old.tables.conditions self.old.rank.value }
         ensures tables { Emptied self.new.tables }
         ensures bare { Bare self.new }
     {
+        unrank(&mut self.rank, self.tables.conditions);
         self.tables.clear();
         self.opened = 0;
         self.marks.clear();
-        self.rank.fill(0);
     }
 
     // Ranks the conditions anew and looks for a broken ban. Refused with the lowest one, it keeps the old ranks; else it

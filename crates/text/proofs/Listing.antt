@@ -1,10 +1,10 @@
 -- The clause in the bytes of a text is that of the literals read there.
-use Rattle.std.proofs.Common.{◌≡◌, ℕ, ◌+◌, ◌≤◌, min, Bool, true, false, cond, eqb, List, [], ◌∷◌, length, drop, Some, Option, refl, ap, ◌∙◌, ⊎_elim, arith, length-drop, eqb-true}
-use Rattle.std.specs.List.{filter_map, slice_get}
+use Rattle.std.proofs.Common.{◌≡◌, ℕ, ◌+◌, ◌≤◌, min, Bool, true, false, cond, eqb, List, [], ◌∷◌, length, map, drop, Some, Option, refl, ap, ◌∙◌, ⊎_elim, arith, length-drop, eqb-true}
+use Rattle.std.specs.List.{filter, slice_get}
+use Rattle.std.specs.Option.{option_map}
 use Rattle.std.proofs.lemmas.Bool.{cases_Bool}
-use Rattle.text.specs.declared.in_place.literals.Literal.{Literal}
 use Rattle.text.specs.Limits.{lead_value}
-use Rattle.text.specs.Literals.{literal, literals_in, body_condition, outcome_condition, clause_of, Listed}
+use Rattle.text.specs.Literals.{literals_in, is_negated, is_outcome, number_of, clause_of, Listed}
 use Rattle.text.specs.Reading.{body_in, outcome_in, clause_in, Small, OpensAt}
 use Rattle.text.proofs.Numbers.{small_drop, small_tail, lead_low}
 
@@ -12,15 +12,15 @@ use Rattle.text.proofs.Numbers.{small_drop, small_tail, lead_low}
 read_whole : (b : ℕ) (bs : List ℕ) → eqb b 80 ≡ true → Small (b ∷ bs) → min 1001 (lead_value bs) ≡ lead_value bs
 read_whole b bs e small = let h = lead_low (b ∷ bs) (eqb-true b 80 e) small in omega arith
 
-body_more : (neg : Bool) (n : ℕ) (body : List ℕ) (ls : List Literal) → body ≡ filter_map body_condition ls → cond neg (n ∷ body) body ≡ filter_map body_condition (literal neg n ∷ ls)
+body_more : (neg : Bool) (n : ℕ) (body : List ℕ) (ls : List (Bool × ℕ)) → body ≡ map number_of (filter is_negated ls) → cond neg (n ∷ body) body ≡ map number_of (filter is_negated ((neg, n) ∷ ls))
 body_more true n body ls e = ap (λ ns. n ∷ ns) e
 body_more false n body ls e = e
 
-outcome_more : (neg : Bool) (n : ℕ) (outcome : Option ℕ) (ls : List Literal) → outcome ≡ slice_get (filter_map outcome_condition ls) 0 → cond neg outcome (Some n) ≡ slice_get (filter_map outcome_condition (literal neg n ∷ ls)) 0
+outcome_more : (neg : Bool) (n : ℕ) (outcome : Option ℕ) (ls : List (Bool × ℕ)) → outcome ≡ option_map number_of (slice_get (filter is_outcome ls) 0) → cond neg outcome (Some n) ≡ option_map number_of (slice_get (filter is_outcome ((neg, n) ∷ ls)) 0)
 outcome_more true n outcome ls e = e
 outcome_more false n outcome ls e = refl
 
-body_listed : (neg : Bool) (s : List ℕ) → Small s → body_in neg s ≡ filter_map body_condition (literals_in neg s)
+body_listed : (neg : Bool) (s : List ℕ) → Small s → body_in neg s ≡ map number_of (filter is_negated (literals_in neg s))
 body_listed neg [] small = refl
 body_listed neg (b ∷ bs) small = ⊎_elim
     (λ (t : eqb b 41 ≡ true). rw t refl)
@@ -32,7 +32,7 @@ body_listed neg (b ∷ bs) small = ⊎_elim
     (cases_Bool (eqb b 80)))
     (cases_Bool (eqb b 41))
 
-outcome_listed : (neg : Bool) (s : List ℕ) → Small s → outcome_in neg s ≡ slice_get (filter_map outcome_condition (literals_in neg s)) 0
+outcome_listed : (neg : Bool) (s : List ℕ) → Small s → outcome_in neg s ≡ option_map number_of (slice_get (filter is_outcome (literals_in neg s)) 0)
 outcome_listed neg [] small = refl
 outcome_listed neg (b ∷ bs) small = ⊎_elim
     (λ (t : eqb b 41 ≡ true). rw t refl)

@@ -1,6 +1,5 @@
 -- The value of a run of digits.
-use Rattle.std.proofs.Common.{◌≡◌, ℕ, suc, ◌+◌, ◌-◌, ◌*◌, ◌^◌, ◌<◌, ◌≤◌, min, max, true, false, cond, ◌&&◌, eqb, leb, List, [], ◌∷◌, Some, None, Option, length, get_or, take, drop, sym, refl, ap, ◌∙◌, subst, ⊎_elim, add-zero, arith}
-use Rattle.std.specs.List.{fold, take_while, prefix_len}
+use Rattle.std.proofs.Common.{◌≡◌, ℕ, ◌+◌, ◌-◌, ◌*◌, ◌<◌, ◌≤◌, min, max, true, false, cond, ◌&&◌, eqb, leb, List, [], ◌∷◌, Some, None, Option, length, get_or, take, drop, sym, refl, ap, ◌∙◌, subst, ⊎_elim, add-zero, arith}
 use Rattle.std.specs.Char.{is_ascii_digit}
 use mathlib.Core.Bool.{false≢true}
 use Rattle.std.proofs.lemmas.List.Sums.{sum_by_more, count_by-le-length}
@@ -24,23 +23,17 @@ capped s v = ⊎_elim
     (λ h. omega (arith, grows s v, grows s (min 1001 v)))
     (cases_lt v 1001)
 
--- two beginnings that are the same up to 1001 end so too
-same_capped : (s : List ℕ) (a b : ℕ) → min 1001 a ≡ min 1001 b → min 1001 (run_value a s) ≡ min 1001 (run_value b s)
-same_capped s a b e = sym (capped s a) ∙ (ap (λ x. min 1001 (run_value x s)) e ∙ capped s b)
-
--- a digit more, in 16 bits
-abbrev pub saturated : ℕ → ℕ → ℕ
-saturated v b = min (min (v * 10) (2 ^ 16 - 1) + (b - 48)) (2 ^ 16 - 1)
-
 ascii_digit : (b : ℕ) → is_ascii_digit b ≡ digit b
 ascii_digit b = elim (leb 48 b) as (λ x. (x && leb b 57) ≡ cond x (leb b 57) false) [ true ↦ refl | false ↦ refl ]
 
-pub read_digits : (s : List ℕ) (v : ℕ) → min (fold saturated v (take_while is_ascii_digit s)) 1001 ≡ min 1001 (run_value v s)
-read_digits [] v = omega arith
-read_digits (b ∷ bs) v = ⊎_elim
-    (λ (t : digit b ≡ true). let z : 1 + prefix_len is_ascii_digit bs ≡ suc (prefix_len is_ascii_digit bs) = omega arith in rw (ascii_digit b, t, z) (read_digits bs (saturated v b) ∙ same_capped bs (saturated v b) (10 * v + (b - 48)) (omega arith)))
-    (λ (t : digit b ≡ false). rw (ascii_digit b, t) (omega arith))
-    (cases_Bool (digit b))
+-- a digit more, where nothing is lost if the value stops at 1001
+pub digit_more : (v : ℕ) (s : List ℕ) (i : ℕ) → i < length s → is_ascii_digit (get_or s i 0) ≡ true → (w : ℕ) → w ≡ min (v * 10 + (get_or s i 0 - 48)) 1001 → min 1001 (run_value w (drop (i + 1) s)) ≡ min 1001 (run_value v (drop i s))
+digit_more v s i h e w t =
+    let n : ℕ = 10 * v + (get_or s i 0 - 48) in
+    let d : digit (get_or s i 0) ≡ true = sym (ascii_digit (get_or s i 0)) ∙ e in
+    let c : w ≡ min 1001 n = omega arith in
+    let more : run_value v (drop i s) ≡ run_value n (drop (i + 1) s) = rw (drop_more s i 0 h, d) refl in
+    ap (λ x. min 1001 (run_value x (drop (i + 1) s))) c ∙ (capped (drop (i + 1) s) n ∙ sym (ap (min 1001) more))
 
 lead_some : (u : List ℕ) → first_digit (get_or u 0 0) ≡ true → lead_value u ≡ run_value 0 u
 lead_some [] e = absurd (false≢true e)

@@ -1,13 +1,12 @@
 -- The next literal of a clause that is read in place.
-use Rattle.std.proofs.Common.{◌≡◌, ℕ, zero, suc, ◌+◌, ◌-◌, ◌<◌, ◌≤◌, Bool, true, false, eqb, List, [], ◌∷◌, length, get_or, take, drop, not, Some, None, Option, unwrap_or, min, refl, ap, ◌∙◌, subst, ⊎_elim, arith, ltb, ltb-false, ne_eqb}
+use Rattle.std.proofs.Common.{◌≡◌, ℕ, zero, suc, ◌+◌, ◌-◌, ◌<◌, ◌≤◌, Bool, true, false, eqb, List, [], ◌∷◌, length, get_or, take, drop, not, Some, None, Option, min, refl, ap, ◌∙◌, ⊎_elim, arith, ltb, ltb-false, ne_eqb}
 use Rattle.std.specs.List.{position, prefix_len}
 use Rattle.std.proofs.lemmas.Bool.{or_parts, or_from, cases_eq, cases_Bool, not-true}
 use Rattle.std.proofs.lemmas.List.Sums.{prefix_len-le-length, prefix_len_passes}
 use Rattle.std.proofs.lemmas.List.Quantifiers.{position-Some}
 use Rattle.std.proofs.lemmas.List.{drop_more, drop_all, drop-drop, take_rest, get_or-take, length-take}
-use Rattle.text.proofs.Numbers.{lead_is, lead_absent, read_at}
-use Rattle.text.specs.Limits.{lead_value, Read}
-use Rattle.text.specs.Literals.{is_sign, literal, literals_in}
+use Rattle.text.specs.Limits.{lead_value}
+use Rattle.text.specs.Literals.{is_sign, literals_in}
 
 -- no P and no ) stands before place k
 abbrev NoSigns : List ℕ → ℕ → Type 0
@@ -59,20 +58,14 @@ module _ (s : List ℕ) (k : ℕ) (at : position is_sign s ≡ Some k) where
       (λ not_letter. absurd (let n = or_from (eqb (get_or s k 0) 80) (eqb (get_or s k 0) 41) (ne_eqb (get_or s k 0) 80 not_letter) (ne_eqb (get_or s k 0) 41 other) in let t = (position-Some is_sign s k 0 at).1 in cc))
       (cases_eq (get_or s k 0) 80)
 
-  pub literals_found : get_or s k 0 ≡ 80 → literals_in false s ≡ literal (tilde_at false s k) (min 1001 (lead_value (drop (k + 1) s))) ∷ literals_in false (drop (k + 1) s)
+  pub literals_found : get_or s k 0 ≡ 80 → literals_in false s ≡ (tilde_at false s k, min 1001 (lead_value (drop (k + 1) s))) ∷ literals_in false (drop (k + 1) s)
   literals_found e = let l = sign_within in up_to_sign ∙ rw (drop_more s k 0 l, e) refl
 
--- the number that is read there
-number_is : (s : List ℕ) (k : ℕ) → get_or s k 0 ≡ 80 → (r : Option ℕ) → Read s k r → unwrap_or r 0 ≡ min 1001 (lead_value (drop (k + 1) s))
-number_is s k e None none = omega (arith, lead_absent s k e none)
-number_is s k e (Some r) x = omega (arith, x.capped, lead_is s k x.value x.condition)
-
 -- one literal, from the parts that are read
-pub one_literal : (s : List ℕ) (k : ℕ) → position is_sign s ≡ Some k → (get_or s k 0 ≡ 41 → ⊥) → (before from : List ℕ) → before ≡ take k s → from ≡ drop k s → (r : Option ℕ) → Read from 0 r → (neg : Bool) → neg ≡ eqb (get_or before (length before - 1) 0) 126 → literals_in false s ≡ literal neg (unwrap_or r 0) ∷ literals_in false (take (length from - 1) (drop 1 from))
-one_literal s k at other before from b f r x neg t =
+pub one_literal : (s : List ℕ) (k : ℕ) → position is_sign s ≡ Some k → (get_or s k 0 ≡ 41 → ⊥) → (before from : List ℕ) → before ≡ take k s → from ≡ drop k s → (neg : Bool) → neg ≡ eqb (get_or before (length before - 1) 0) 126 → literals_in false s ≡ (neg, min 1001 (lead_value (take (length from - 1) (drop 1 from)))) ∷ literals_in false (take (length from - 1) (drop 1 from))
+one_literal s k at other before from b f neg t =
     let e = letter_found s k at other in
     let l = sign_within s k at in
-    let n : unwrap_or r 0 ≡ min 1001 (lead_value (drop (k + 1) s)) = number_is s k e r (read_at s k r (subst (λ y. Read y 0 r) f x)) in
-    let rest : take (length from - 1) (drop 1 from) ≡ drop (k + 1) s = take_rest from 1 ∙ (ap (drop 1) f ∙ drop-drop 1 k s) in
+    let digits : take (length from - 1) (drop 1 from) ≡ drop (k + 1) s = take_rest from 1 ∙ (ap (drop 1) f ∙ drop-drop 1 k s) in
     let tilde : neg ≡ tilde_at false s k = t ∙ (ap (λ y. eqb (get_or y (length y - 1) 0) 126) b ∙ tilde_before s k (omega arith)) in
-    rw (rest, n, tilde) (literals_found s k at e)
+    rw (digits, tilde) (literals_found s k at e)

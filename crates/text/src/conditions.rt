@@ -1,7 +1,7 @@
 // The condition that some bytes begin with.
 ghost use Rattle.std.specs.Prelude.{◌≡◌, ◌-◌, ◌==◌, min, length, slice_index};
 ghost use Rattle.text.specs.Judging.{run_value};
-ghost use Rattle.text.specs.Limits.{Read};
+ghost use Rattle.text.specs.Limits.{Read, lead_value};
 
 use horn::limits::MAX_CONDITION;
 
@@ -12,15 +12,24 @@ const TOO_GREAT: u16 = MAX_CONDITION + 1;
 fn number(bytes: &[u8]) -> u16
     ensures { result ≡ min 1001 (run_value 0 bytes.now) }
 {
-    bytes
-        .iter()
-        .take_while(|byte| byte.is_ascii_digit())
-        .fold(0u16, |value, digit| {
-            value
-                .saturating_mul(10)
-                .saturating_add(u16::from(digit.saturating_sub(b'0')))
-        })
-        .min(TOO_GREAT)
+    let mut value = 0;
+    for byte in bytes {
+        if !byte.is_ascii_digit() {
+            return value;
+        }
+        value = (value * 10 + u16::from(*byte - b'0')).min(TOO_GREAT);
+    }
+    value
+}
+
+// The number that the bytes begin with, 0 where none stands there.
+pub(crate) fn lead(bytes: &[u8]) -> u16
+    ensures { result ≡ min 1001 (lead_value bytes.now) }
+{
+    match bytes {
+        [b'1'..=b'9', ..] => number(bytes),
+        _ => 0,
+    }
 }
 
 // The condition whose P the bytes begin with.

@@ -18,16 +18,16 @@ pub(crate) enum State {
 fn step(state: State, byte: u8) -> Option<State>
     ensures { result ≡ next state byte }
 {
-    match (state, byte) {
-        (State::Start, b'(') => Some(State::Literal),
-        (State::Literal, b'~') => Some(State::Negated),
-        (State::Literal, b'P') => Some(State::PosFirst),
-        (State::Negated, b'P') => Some(State::NegFirst),
-        (State::NegFirst, b'1'..=b'9') | (State::NegMore, b'0'..=b'9') => Some(State::NegMore),
-        (State::NegMore, b'|') => Some(State::Literal),
-        (State::NegMore | State::PosMore, b')') => Some(State::Done),
-        (State::PosFirst, b'1'..=b'9') | (State::PosMore, b'0'..=b'9') => Some(State::PosMore),
-        (State::Done, b'&') => Some(State::Start),
+    match (state, byte as char) {
+        (State::Start, '(') => Some(State::Literal),
+        (State::Literal, '~') => Some(State::Negated),
+        (State::Literal, 'P') => Some(State::PosFirst),
+        (State::Negated, 'P') => Some(State::NegFirst),
+        (State::NegFirst, '1'..='9') | (State::NegMore, '0'..='9') => Some(State::NegMore),
+        (State::NegMore, '|') => Some(State::Literal),
+        (State::NegMore | State::PosMore, ')') => Some(State::Done),
+        (State::PosFirst, '1'..='9') | (State::PosMore, '0'..='9') => Some(State::PosMore),
+        (State::Done, '&') => Some(State::Start),
         _ => None,
     }
 }

@@ -1,45 +1,30 @@
 // The literals of a clause that is read in place.
-ghost use Rattle.std.specs.Prelude.{◌≡◌, false, position};
-ghost use Rattle.std.specs.Iterator.{YieldsFirst, item_count};
-ghost use Rattle.text.specs.Literals.{is_sign, literal, literals_in, body_condition, outcome_condition};
+ghost use Rattle.std.specs.Prelude.{◌≡◌, false, min, position};
+ghost use Rattle.std.specs.Iterator.{YieldsFirstBy, item_count};
+ghost use Rattle.text.specs.Limits.{lead_value};
+ghost use Rattle.text.specs.Literals.{is_sign, literals_in, seen};
 
-use crate::conditions::{condition, ends_negated};
+use crate::conditions::{ends_negated, lead};
 
-// A literal, by its condition; 1001 stands for every number above 1000.
+// A literal: whether it is negated, and the bytes after its P. Its number is read where it is asked for.
 #[derive(Clone, Copy, PartialEq, Eq, Debug)]
-pub(crate) enum Literal {
-    Negative(u16),
-    Positive(u16),
+pub(crate) struct Literal<'a> {
+    negated: bool,
+    digits: &'a [u8],
 }
 
-impl Literal {
-    fn new(negated: bool, condition: u16) -> Literal
-        ensures { result ≡ literal negated condition }
+impl Literal<'_> {
+    pub(crate) fn is_negated(&self) -> bool
+        ensures { result ≡ self.now.negated }
     {
-        if negated {
-            Literal::Negative(condition)
-        } else {
-            Literal::Positive(condition)
-        }
+        self.negated
     }
 
-    // One question for each case: a test that takes the case as a parameter is no plainer.
-    pub(crate) fn body_condition(self) -> Option<u16>
-        ensures { result ≡ body_condition self }
+    // 1001 stands for every number above 1000.
+    pub(crate) fn condition(self) -> u16
+        ensures { result ≡ min 1001 (lead_value self.entry.digits.now) }
     {
-        match self {
-            Literal::Negative(n) => Some(n),
-            Literal::Positive(_) => None,
-        }
-    }
-
-    pub(crate) fn outcome_condition(self) -> Option<u16>
-        ensures { result ≡ outcome_condition self }
-    {
-        match self {
-            Literal::Negative(_) => None,
-            Literal::Positive(n) => Some(n),
-        }
+        lead(self.digits)
     }
 }
 
@@ -56,20 +41,24 @@ pub(crate) struct Literals<'a> {
     pub(crate) rest: &'a [u8],
 }
 
-impl Iterator for Literals<'_> {
-    type Item = Literal;
+impl<'a> Iterator for Literals<'a> {
+    type Item = Literal<'a>;
 
-    ghost next_gives = { YieldsFirst (λ s. literals_in false s.rest.now) };
+    ghost next_gives = { YieldsFirstBy seen (λ s. literals_in false s.rest.now) };
 
     ghost remaining = { item_count (λ s. literals_in false s.rest.now) };
 
-    fn next(&mut self) -> Option<Literal> {
+    fn next(&mut self) -> Option<Literal<'a>> {
         let place = next_sign(self.rest)?;
         if self.rest[place] == b')' {
             return None;
         }
         let (before, from) = self.rest.split_at(place);
-        self.rest = &from[1..];
-        Some(Literal::new(ends_negated(before), condition(from).unwrap_or(0)))
+        let digits = &from[1..];
+        self.rest = digits;
+        Some(Literal {
+            negated: ends_negated(before),
+            digits,
+        })
     }
 }

@@ -23,9 +23,8 @@ impl TextSheet<'_> {
         ensures { Listed self.now.bytes.now i (option_map (λ literals. literals_in false literals.rest.now) result) }
     {
         let place = self.opening(i)?;
-        Some(Literals {
-            rest: &self.bytes[place + 1..],
-        })
+        let rest = self.bytes.get(place + 1..)?;
+        Some(Literals { rest })
     }
 }
 
@@ -43,17 +42,18 @@ impl Source for TextSheet<'_> {
     }
 
     fn outcome(&self, i: u16) -> Option<u16> {
-        let mut outcomes = self.literals(i)?.filter_map(Literal::outcome_condition);
-        Some(outcomes.next().unwrap_or(0))
+        let mut outcomes = self.literals(i)?.filter(|literal| !literal.is_negated());
+        Some(outcomes.next().map_or(0, Literal::condition))
     }
 
     fn body_len(&self, i: u16) -> Option<u16> {
-        let body = self.literals(i)?.filter_map(Literal::body_condition);
+        let body = self.literals(i)?.filter(Literal::is_negated);
         Some(body.count() as u16)
     }
 
     fn body_at(&self, i: u16, j: u16) -> Option<u16> {
-        let mut body = self.literals(i)?.filter_map(Literal::body_condition);
-        body.nth(usize::from(j).checked_sub(1)?)
+        let mut body = self.literals(i)?.filter(Literal::is_negated);
+        let literal = body.nth(usize::from(j).checked_sub(1)?)?;
+        Some(literal.condition())
     }
 }

@@ -1,9 +1,12 @@
 use Rattle.std.proofs.Common.{ap, inl}
 use Rattle.std.proofs.lemmas.Result.{err_from_is_err_and}
 use Rattle.round.specs.Answers.{refusal}
-use Rattle.round.proofs.Openings.{stocked_from, opened_from, opened_broken}
+use Rattle.round.proofs.Openings.{only_ranked, stocked_from, opened_from, opened_broken}
 use Rattle.round.proofs.Promise.{opening_promised}
 use Rattle.round.proofs.sound.Round.open.Goals as goal
+
+pub empty-requires-clause-ranked : goal.empty-requires-clause-ranked
+empty-requires-clause-ranked g c = let r = c.args.self.now in only_ranked r.state r.ok
 
 pub returns-in_err-fill_from-clause-promise : goal.returns-in_err-fill_from-clause-promise
 returns-in_err-fill_from-clause-promise g c =

@@ -14,5 +14,5 @@ returns-then-self-place-eq41-clause-steps c =
 
 pub returns : goal.returns
 returns c =
-    let e = one_literal c.args.self.now.rest.now c.in_ok-place.place (sym c.in_ok-place.ensures) c.if-self-place-eq41.false c.split_at.result.0.now c.split_at.result.1.now c.split_at.ensures.front c.split_at.ensures.back c.condition.result c.condition.ensures c.ends_negated.result c.ends_negated.ensures in
+    let e = one_literal c.args.self.now.rest.now c.in_ok-place.place (sym c.in_ok-place.ensures) c.if-self-place-eq41.false c.split_at.result.0.now c.split_at.result.1.now c.split_at.ensures.front c.split_at.ensures.back c.ends_negated.result c.ends_negated.ensures in
     record { steps = cc; goes = record { on = λ _. (tt, tt, omega (arith, ap length e)); keeps = tt; rests = λ _. tt } }
